@@ -1,0 +1,3 @@
+mod Choosing
+mod Numbers
+mod Splits

@@ -1,0 +1,10 @@
+//! The commands of a scenario, as they are read from a line.
+mod command;
+mod number;
+mod read;
+mod words;
+
+pub use command::Command;
+pub use number::read_number;
+pub use read::read_command;
+pub use words::split_words;

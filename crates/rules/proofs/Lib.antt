@@ -1,0 +1,4 @@
+pub mod Within
+mod Counts
+pub mod Roads
+pub mod Lawful

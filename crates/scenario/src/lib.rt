@@ -1,0 +1,12 @@
+//! Scenarios for a bench: what is done for each command, and what is answered.
+mod answer;
+mod reply;
+mod rows;
+mod session;
+mod show;
+
+pub use answer::Answer;
+pub use reply::Reply;
+pub use rows::rows_text;
+pub use session::Session;
+pub use show::AnswerDisplay;

@@ -1,0 +1,4 @@
+mod Gathers
+pub mod Low
+mod Sweeping
+pub mod Calls

@@ -1,0 +1,4 @@
+pub mod Window
+pub mod Sweep
+pub mod Plain
+pub mod Plate
