@@ -2,9 +2,11 @@
 mod command;
 mod number;
 mod read;
+mod stores;
 mod words;
 
 pub use command::Command;
+pub use command::StoreCommand;
 pub use number::read_number;
 pub use read::read_command;
 pub use words::split_words;

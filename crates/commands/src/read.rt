@@ -6,16 +6,17 @@ ghost use Rattle.commands.specs.Numerals.{numeral};
 ghost use Rattle.commands.specs.Commands.{given, vehicles, wordAt, askedOf, ruleOf, plateOf, rowOf, sweepOf, verbOf, commandOf};
 use super::command::Command;
 use super::number::read_number;
+use super::stores::read_store_verb;
 
 // The word at a place, or an empty one.
-fn word_at<'a>(words: &[&'a str], i: usize) -> &'a str
+pub(crate) fn word_at<'a>(words: &[&'a str], i: usize) -> &'a str
     ensures { λ r. ⌜ now r ≡ wordAt (now (words .entry)) i ⌝ }
 {
     if i < words.len() { words[i] } else { "" }
 }
 
 // Whether a word is the other.
-fn is_word(word: &str, other: &str) -> bool
+pub(crate) fn is_word(word: &str, other: &str) -> bool
     ensures { λ r. ⌜ r ≡ sameBytes (now (word .entry)) (now (other .entry)) ⌝ }
 {
     word == other
@@ -117,7 +118,7 @@ fn begins_with_hash(bytes: &[u8]) -> bool
 }
 
 // The command that the first word names.
-fn read_verb<'a>(words: &[&'a str]) -> Command<'a>
+fn read_verb<'a>(words: &'a [&'a str]) -> Command<'a>
     ensures { λ r. ⌜ askedOf r ≡ verbOf (length (now (words .entry))) (wordAt (now (words .entry))) ⌝ }
 {
     match word_at(words, 0) {
@@ -125,12 +126,12 @@ fn read_verb<'a>(words: &[&'a str]) -> Command<'a>
         "plate" => read_plate(words),
         "row" => read_row(words),
         "sweep" => read_sweep(words),
-        _ => Command::Unknown,
+        _ => read_store_verb(words),
     }
 }
 
 /// What a line's words ask for.
-pub fn read_command<'a>(words: &[&'a str]) -> Command<'a>
+pub fn read_command<'a>(words: &'a [&'a str]) -> Command<'a>
     ensures { λ r. ⌜ askedOf r ≡ commandOf (length (now (words .entry))) (wordAt (now (words .entry))) ⌝ }
 {
     if words.len() == 0 {

@@ -2,6 +2,7 @@
 ghost use mathlib.Core.Path.{_≡_};
 ghost use mathlib.Core.Bool.{true, false};
 ghost use mathlib.Core.List.{_++_, map};
+ghost use Prim.Native.Nat.{_≤_};
 ghost use Rattle.std.specs.Of.String.{string-bytes};
 ghost use Rattle.std.specs.Of.Vec.{vec-items};
 ghost use Rattle.std.specs.Options.{Cases as BySome};
@@ -13,7 +14,8 @@ use std::alloc::Global;
 
 /// The digit of a code, and `?` for what is no code.
 pub fn digit_of(code: u8) -> u8
-    ensures { λ r. ⌜ r ≡ digit code ⌝ }
+    ensures is { λ r. ⌜ r ≡ digit code ⌝ }
+    ensures back { λ r. ⌜ (code ≤ 15 → (isDigit r ≡ true) × (codeOf r ≡ code)) ⌝ }
 {
     match code {
         0..=9 => b'0' + code,

@@ -79,10 +79,11 @@ obeyed-keeps s (command.vehicles a b c) = ruling-keeps s (vehiclesMade a b c)
 obeyed-keeps s (command.plate w h ex ey) = platingIn-keeps (ruleIn s) s w h ex ey
 obeyed-keeps s (command.row y digits) = rowingIn-keeps s y digits
 obeyed-keeps s (command.sweep k) = sweepingIn-keeps s k
+obeyed-keeps s (command.store c) = λ n e. refl
 obeyed-keeps s command.unknown = λ n e. refl
 
-pub refused-keeps : (o : Option Said) (s t : State) (q : Asked) (n : FiveNumbers) → Obeys o s t (obeyed s q) → o ≡ Some (refused n) → t ≡ s
-refused-keeps None s t q n h e = h
-refused-keeps (Some said) s t q n h e =
+pub refused-keeps : (m : Bool) (o : Option Said) (s t : State) (q : Asked) (n : FiveNumbers) → Obeys m o s t (obeyed s q) → o ≡ Some (refused n) → t ≡ s
+refused-keeps m None s t q n h e = h .1
+refused-keeps m (Some said) s t q n h e =
     let is : said ≡ refused n = cc in
     ap (λ (x : Outcome). x .after) h ∙ obeyed-keeps s q n (sym (ap (λ (x : Outcome). x .said) h) ∙ is)

@@ -1,12 +1,10 @@
 -- What a scenario's commands do: what is said, and how far the scenario has come.
 use mathlib.Core.Path.{_≡_}
-use mathlib.Core.List.{List, []}
-use mathlib.Core.Logic.{_⊎_}
-use mathlib.Core.Bool.{Bool, cond}
+use mathlib.Core.List.{List}
+use mathlib.Core.Bool.{Bool, true, false, cond}
 use Prim.Native.Nat.{ℕ}
 use lib.Dec.{eqb}
-use lib.ListN.{length, getD}
-use Rattle.std.specs.Text.{Utf8}
+use lib.ListN.{length}
 use Rattle.std.specs.declared.option.Option.{Option}
 use Rattle.std.specs.declared.option.Option.the-variants.{Some, None}
 use Rattle.std.specs.declared.result.Result.{Result}
@@ -29,7 +27,6 @@ use Rattle.scenario.specs.declared.session.Session.{Session}
 use Rattle.scenario.specs.declared.session.Session.the-variants as session
 use Rattle.commands.specs.Commands as command
 use Rattle.commands.specs.Commands.{Asked}
-use Rattle.commands.specs.Words.{Words}
 
 -- no rule yet, a rule, or a plate with its rule
 pub data State : Type 0 where
@@ -131,7 +128,7 @@ plateIn fresh = None
 plateIn (ruled r) = None
 plateIn (plated r p) = Some (plated r p)
 
--- what a command does
+-- what a command does; commands for stores leave the plates alone
 abbrev pub obeyed : State → Asked → Outcome
 obeyed s command.nothing = outcome nothing s
 obeyed s command.life = ruling s (Ok rules.life)
@@ -139,16 +136,21 @@ obeyed s (command.vehicles a b c) = ruling s (vehiclesMade a b c)
 obeyed s (command.plate w h ex ey) = platingIn (ruleIn s) s w h ex ey
 obeyed s (command.row y digits) = rowingIn s y digits
 obeyed s (command.sweep n) = sweepingIn s n
+obeyed s (command.store c) = outcome nothing s
 obeyed s command.unknown = outcome not-understood s
 
--- the reply and the state after it are the defined ones; where memory was wanting, nothing has changed
-abbrev pub Obeys : Option Said → State → State → Outcome → Type 0
-Obeys (Some said) before after defined = outcome said after ≡ defined
-Obeys None before after defined = after ≡ before
+-- only a new plate and a row take memory
+abbrev pub takesMemory : Asked → Bool
+takesMemory command.nothing = false
+takesMemory command.life = false
+takesMemory (command.vehicles a b c) = false
+takesMemory (command.plate w h ex ey) = true
+takesMemory (command.row y digits) = true
+takesMemory (command.sweep n) = false
+takesMemory (command.store c) = false
+takesMemory command.unknown = false
 
--- a line that is no text is not understood; of any other the words are obeyed
-abbrev pub Answers : List ℕ → Option Said → State → State → Type 0
-Answers line None before after = after ≡ before
-Answers line (Some said) before after =
-    ((Utf8 line → ⊥) × (outcome said after ≡ outcome not-understood before))
-    ⊎ ((ws : List (List ℕ)) × Words line ws × (outcome said after ≡ obeyed before (command.commandOf (length ws) (λ i. getD ws i []))))
+-- the reply and the state after it are the defined ones; only what takes memory can want it, and then nothing has changed
+abbrev pub Obeys : Bool → Option Said → State → State → Outcome → Type 0
+Obeys memory (Some said) before after defined = outcome said after ≡ defined
+Obeys memory None before after defined = (memory ≡ true) × (after ≡ before)

@@ -12,7 +12,7 @@ pub loop-cell-again : need.loop-cell-again
 loop-cell-again c =
     let i = c .loop-cell .cell-index in
     let cells = c .args .cells .now in
-    let is : c .from .result ≡ digit (getD (c .args .cells .now) (c .loop-cell .cell-index) 0) = c .from .ensures ∙ c .digit-of .ensures in
+    let is : c .from .result ≡ digit (getD (c .args .cells .now) (c .loop-cell .cell-index) 0) = c .from .ensures ∙ c .digit-of .ensures .is in
     let one = c .push .ensures .ascii (omega (arith, is, digit-ascii (getD cells i 0))) in
     c .in-Continue-push .ensures tt .bytes
     ∙ ap₂ (λ a b. a ++ b) (c .loop-cell .inv) (one ∙ ap (λ d. d ∷ []) is)

@@ -1,4 +1,5 @@
 ghost use mathlib.Core.Path.{_≡_};
+ghost use mathlib.Core.Bool.{true, false};
 ghost use lib.ListN.{length};
 ghost use Rattle.std.specs.Options.{mapped};
 ghost use Rattle.std.specs.declared.option.Option.the-variants.{Some};
@@ -9,12 +10,10 @@ ghost use Rattle.rules.specs.Meant.{anyOf};
 ghost use Rattle.rules.specs.Vehicles.{vehiclesMade};
 ghost use Rattle.sweep.specs.Plate.{plainOf, ruleOf};
 ghost use Rattle.commands.specs.Commands.{askedOf};
-ghost use Rattle.scenario.specs.Sessions.{fresh, plated, stateOf, saidOf, refused, ruling, ruleIn, platingIn, rowing, rowingIn, sweepSaid, sweepingIn, plateIn, obeyed, Obeys, Answers};
+ghost use Rattle.scenario.specs.Sessions.{fresh, plated, stateOf, saidOf, refused, ruling, ruleIn, platingIn, rowing, rowingIn, sweepSaid, sweepingIn, plateIn, takesMemory, obeyed, Obeys};
 use super::Session;
 use crate::reply::Reply;
 use commands::Command;
-use commands::read_command;
-use commands::split_words;
 use digits::read_row;
 use refusals::Failure;
 use refusals::Refusal;
@@ -24,12 +23,11 @@ use rules::Life;
 use rules::Vehicles;
 use rules::count_code;
 use std::alloc::Global;
-use std::str::from_utf8;
 use sweep::Plate;
 
 // A whole row of codes, put into a plate.
 fn put_codes(plate: &mut Plate<AnyRule>, y: u32, codes: &[u8]) -> Reply
-    ensures { λ r. ⌜ Obeys (saidOf r) (plated (anyOf (ruleOf (now (plate .entry)))) (plainOf (now (plate .entry)))) (plated (anyOf (ruleOf (now (plate .exit)))) (plainOf (now (plate .exit)))) (rowing (anyOf (ruleOf (now (plate .entry)))) (plainOf (now (plate .entry))) y (now (codes .entry))) ⌝ }
+    ensures { λ r. ⌜ Obeys false (saidOf r) (plated (anyOf (ruleOf (now (plate .entry)))) (plainOf (now (plate .entry)))) (plated (anyOf (ruleOf (now (plate .exit)))) (plainOf (now (plate .exit)))) (rowing (anyOf (ruleOf (now (plate .entry)))) (plainOf (now (plate .entry))) y (now (codes .entry))) ⌝ }
 {
     let columns = plate.shape().width;
     if codes.len() != columns as usize {
@@ -51,7 +49,7 @@ impl Session {
 
     // A new rule; the plate of the old one is gone.
     fn set_rule(&mut self, rule: AnyRule) -> Reply
-        ensures { λ r. ⌜ Obeys (saidOf r) (stateOf (now (self .entry))) (stateOf (now (self .exit))) (ruling (stateOf (now (self .entry))) (Ok (anyOf rule))) ⌝ }
+        ensures { λ r. ⌜ Obeys false (saidOf r) (stateOf (now (self .entry))) (stateOf (now (self .exit))) (ruling (stateOf (now (self .entry))) (Ok (anyOf rule))) ⌝ }
     {
         *self = Session::Ruled(rule);
         Reply::Ruled(rule)
@@ -59,7 +57,7 @@ impl Session {
 
     // Vehicles as the new rule.
     fn set_vehicles(&mut self, a: u32, b: u32, c: u32) -> Reply
-        ensures { λ r. ⌜ Obeys (saidOf r) (stateOf (now (self .entry))) (stateOf (now (self .exit))) (ruling (stateOf (now (self .entry))) (vehiclesMade a b c)) ⌝ }
+        ensures { λ r. ⌜ Obeys false (saidOf r) (stateOf (now (self .entry))) (stateOf (now (self .exit))) (ruling (stateOf (now (self .entry))) (vehiclesMade a b c)) ⌝ }
     {
         match Vehicles::new(a, b, c) {
             Ok(rule) => self.set_rule(AnyRule::Vehicles(rule)),
@@ -87,7 +85,7 @@ impl Session {
         edgex: &str,
         edgey: &str,
     ) -> Reply
-        ensures { λ r. ⌜ Obeys (saidOf r) (stateOf (now (self .entry))) (stateOf (now (self .exit))) (platingIn (ruleIn (stateOf (now (self .entry)))) (stateOf (now (self .entry))) width height (now (edgex .entry)) (now (edgey .entry))) ⌝ }
+        ensures { λ r. ⌜ Obeys true (saidOf r) (stateOf (now (self .entry))) (stateOf (now (self .exit))) (platingIn (ruleIn (stateOf (now (self .entry)))) (stateOf (now (self .entry))) width height (now (edgex .entry)) (now (edgey .entry))) ⌝ }
     {
         let Some(rule) = self.rule() else {
             return Reply::NoRule;
@@ -105,7 +103,7 @@ impl Session {
 
     // The codes of a row, as digits, put into the plate.
     fn set_row(&mut self, heap: Global, y: u32, digits: &str) -> Reply
-        ensures { λ r. ⌜ Obeys (saidOf r) (stateOf (now (self .entry))) (stateOf (now (self .exit))) (rowingIn (stateOf (now (self .entry))) y (now (digits .entry))) ⌝ }
+        ensures { λ r. ⌜ Obeys true (saidOf r) (stateOf (now (self .entry))) (stateOf (now (self .exit))) (rowingIn (stateOf (now (self .entry))) y (now (digits .entry))) ⌝ }
     {
         let Session::Laid(plate) = self else {
             return Reply::Refused(Refusal::Bare.numbers());
@@ -119,7 +117,7 @@ impl Session {
 
     // So many sweeps of the plate.
     fn sweep(&mut self, n: u32) -> Reply
-        ensures { λ r. ⌜ Obeys (saidOf r) (stateOf (now (self .entry))) (stateOf (now (self .exit))) (sweepingIn (stateOf (now (self .entry))) n) ⌝ }
+        ensures { λ r. ⌜ Obeys false (saidOf r) (stateOf (now (self .entry))) (stateOf (now (self .exit))) (sweepingIn (stateOf (now (self .entry))) n) ⌝ }
     {
         let Session::Laid(plate) = self else {
             return Reply::Refused(Refusal::Bare.numbers());
@@ -133,7 +131,7 @@ impl Session {
 
     // Does what a command asks for.
     fn run(&mut self, heap: Global, command: Command<'_>) -> Reply
-        ensures { λ r. ⌜ Obeys (saidOf r) (stateOf (now (self .entry))) (stateOf (now (self .exit))) (obeyed (stateOf (now (self .entry))) (askedOf (command .entry))) ⌝ }
+        ensures { λ r. ⌜ Obeys (takesMemory (askedOf (command .entry))) (saidOf r) (stateOf (now (self .entry))) (stateOf (now (self .exit))) (obeyed (stateOf (now (self .entry))) (askedOf (command .entry))) ⌝ }
     {
         match command {
             Command::Nothing => Reply::Nothing,
@@ -148,13 +146,14 @@ impl Session {
             ),
             Command::Row(y, digits) => self.set_row(heap, y, digits),
             Command::Sweep(n) => self.sweep(n),
+            Command::Store(_) => Reply::Nothing,
             Command::Unknown => Reply::NotUnderstood,
         }
     }
 
     /// Does what a command asks for, and answers what it did. A refused command changes nothing.
     pub fn obey(&mut self, heap: Global, command: Command<'_>) -> Reply
-        ensures obeys { λ r. ⌜ Obeys (saidOf r) (stateOf (now (self .entry))) (stateOf (now (self .exit))) (obeyed (stateOf (now (self .entry))) (askedOf (command .entry))) ⌝ }
+        ensures obeys { λ r. ⌜ Obeys (takesMemory (askedOf (command .entry))) (saidOf r) (stateOf (now (self .entry))) (stateOf (now (self .exit))) (obeyed (stateOf (now (self .entry))) (askedOf (command .entry))) ⌝ }
         ensures kept { λ r. ⌜ ((numbers : FiveNumbers) → saidOf r ≡ Some (refused numbers) → stateOf (now (self .exit)) ≡ stateOf (now (self .entry))) ⌝ }
     {
         self.run(heap, command)
@@ -168,18 +167,5 @@ impl Session {
             Session::Laid(plate) => Some(plate),
             _ => None,
         }
-    }
-
-    /// Answers a line of a scenario.
-    pub fn answer(&mut self, heap: Global, line: &[u8]) -> Reply
-        ensures { λ r. ⌜ Answers (now (line .entry)) (saidOf r) (stateOf (now (self .entry))) (stateOf (now (self .exit))) ⌝ }
-    {
-        let Ok(text) = from_utf8(line) else {
-            return Reply::NotUnderstood;
-        };
-        let Ok(words) = split_words(heap, text) else {
-            return Reply::NoMemory;
-        };
-        self.obey(heap, read_command(words.as_slice()))
     }
 }

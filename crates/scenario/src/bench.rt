@@ -1,0 +1,11 @@
+use super::session::Session;
+use desk::Desk;
+
+mod line;
+
+/// A bench: its plates and its stores.
+#[derive(Drop)]
+pub struct Bench {
+    plates: Session,
+    stores: Desk,
+}
