@@ -11,5 +11,4 @@ pub use answer::BenchReply;
 pub use bench::Bench;
 pub use reply::Reply;
 pub use rows::rows_text;
-pub use session::Session;
 pub use show::AnswerDisplay;
