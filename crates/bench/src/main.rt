@@ -1,4 +1,6 @@
 //! Reads a scenario on standard input and says in print what it did, command by command.
+#![tactic(auto)]
+
 use scenario::{Answer, Bench, BenchReply, Reply, rows_text};
 use std::io::{BufRead, BufReader};
 

@@ -1,4 +1,6 @@
 //! The commands of a scenario, as they are read from a line.
+#![tactic(auto)]
+
 mod command;
 mod number;
 mod read;

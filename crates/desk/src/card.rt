@@ -16,8 +16,8 @@ fn names_tile(word: &str, n: u32) -> bool
 
 // A card's memory with the mark of one tile set, if the word names a tile.
 fn mark(memory: &mut [u8], n: u32, word: &str)
-    requires memory_len { length memory.old ≡ 65 * n }
-    requires n_bound { n ≤ 1048576 }
+    requires card_sized { length memory.old ≡ 65 * n }
+    requires few_tiles { n ≤ 1048576 }
     ensures { memory.new ≡ marked_one n memory.old word.now }
 {
     if let Some(k) = read_number(word) {
@@ -51,8 +51,8 @@ pub(crate) fn card_memory(heap: Global, n: u32, worn: &[&str]) -> Result<Vec<u8>
 
 // Sets the marks of the named tiles.
 fn mark_all(memory: &mut [u8], n: u32, worn: &[&str])
-    requires memory_len { length memory.old ≡ 65 * n }
-    requires n_bound { n ≤ 1048576 }
+    requires card_sized { length memory.old ≡ 65 * n }
+    requires few_tiles { n ≤ 1048576 }
     ensures { memory.new ≡ marked n memory.old (map (λ w. w.now) worn.now) }
 {
     for word in worn {

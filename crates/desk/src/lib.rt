@@ -1,4 +1,6 @@
 //! Stores on a bench: what is done for each command, and what is answered.
+#![tactic(auto)]
+
 mod card;
 mod desk;
 mod reply;

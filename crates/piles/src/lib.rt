@@ -1,4 +1,6 @@
 //! Stores that are chosen while a program runs.
+#![tactic(auto)]
+
 mod any;
 mod choice;
 

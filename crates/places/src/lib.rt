@@ -1,4 +1,6 @@
 //! The list of a shelf in memory: 64 places for tiles, by last use.
+#![tactic(auto)]
+
 mod offset;
 mod places;
 

@@ -1,4 +1,6 @@
 //! Why a call says no: one enum for all reasons, and the five numbers by which each is reported.
+#![tactic(auto)]
+
 ghost use Rattle.std.specs.Prelude.{◌≡◌, List, ◌∷◌, ◌++◌, Some};
 ghost use Rattle.refusals.specs.declared.refusal.Refusal.{Refusal};
 ghost use Rattle.refusals.specs.declared.failure.Failure.TheVariants.{Refused, Memory};

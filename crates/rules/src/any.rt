@@ -2,6 +2,7 @@ ghost use Rattle.std.specs.Prelude.{◌≡◌, Some};
 ghost use Rattle.rules.specs.Meant.{any_of};
 ghost use Rattle.rules.specs.Written.{written};
 ghost use Rattle.rules.specs.Lawful.{vehicles_lawful, life_lawful};
+ghost use Rattle.rules.specs.declared.choice.AnyRule.TheVariants as choice;
 
 use super::choice::AnyRule;
 use super::life::Life;

@@ -1,4 +1,6 @@
 //! Rules of a lattice: what every rule tells and shows, Conway's Life, and Nagel and Schreckenberg's vehicles.
+#![tactic(auto)]
+
 mod any;
 mod choice;
 mod codes;

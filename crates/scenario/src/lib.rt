@@ -1,4 +1,6 @@
 //! Scenarios for a bench: what is done for each command, and what is answered.
+#![tactic(auto)]
+
 mod answer;
 mod bench;
 mod reply;

@@ -1,4 +1,6 @@
 //! Shapes of a lattice: edges, axes, and the places along them.
+#![tactic(auto)]
+
 mod edges;
 mod place;
 mod shape;

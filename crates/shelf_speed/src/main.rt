@@ -1,6 +1,8 @@
 //! How long byte calls of a shelf take: a million on the tile in front, a million round three tiles, and a
 //! million that each fetch. The times go to standard error, since they vary from run to run; the sums of the
 //! bytes read go to standard output.
+#![tactic(auto)]
+
 ghost use Rattle.std.specs.Prelude.{◌≡◌, ◌*◌, ◌≤◌, Ok, Err};
 
 use places::Offset;

@@ -1,4 +1,6 @@
 //! Shelves that are made and called: what each call answers holds with no premise, and some of it is run.
+#![tactic(auto)]
+
 ghost use Rattle.std.specs.Prelude.{◌≡◌, slice_index};
 ghost use Rattle.stores.specs.Meaning.{read, tile_of, buffer_after};
 ghost use Rattle.stores.specs.Layouts.{image, plain_layout, card_layout};

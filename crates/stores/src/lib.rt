@@ -1,4 +1,6 @@
 //! Stores of tiles: what every store is and keeps, plain memory, card images, bit stores, and windows.
+#![tactic(auto)]
+
 mod bits;
 mod card;
 mod memory;

@@ -1,4 +1,6 @@
 //! Stores that are made and called: what each call answers holds with no premise, and some of it is run.
+#![tactic(auto)]
+
 ghost use Rattle.std.specs.Prelude.{◌≡◌};
 ghost use Rattle.stores.specs.Meaning.{read, write, tile_of, buffer_after};
 ghost use Rattle.stores.specs.Layers.{window};

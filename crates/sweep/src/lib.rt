@@ -1,4 +1,6 @@
 //! Windows with walls and rings, and the plain sweep over memory of its own.
+#![tactic(auto)]
+
 mod plate;
 mod window;
 

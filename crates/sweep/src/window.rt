@@ -61,8 +61,8 @@ pub(crate) fn gather(
     y: u32,
     out: &mut [u8; LARGEST],
 ) -> usize
-    requires reach_bound { columns.reach ≤ 8 }
-    requires reach_bound_2 { rows.reach ≤ 2 }
+    requires few_columns { columns.reach ≤ 8 }
+    requires few_rows { rows.reach ≤ 2 }
     ensures few { result ≤ 85 }
     ensures holds { take result out.new ≡ window columns rows (cell_of shape cells.now) (x, y) }
 {

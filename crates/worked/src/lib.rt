@@ -1,4 +1,6 @@
 //! Worked cases, proved by computing them from the definitions.
+#![tactic(auto)]
+
 ghost use Rattle.std.specs.Prelude.{◌≡◌, length};
 ghost use Rattle.worked.specs.Cases.{cases, AllHold};
 

@@ -8,9 +8,9 @@ pub loop-cell-preserved : goal.loop-cell-preserved
 loop-cell-preserved c =
     let i = c.loop-cell.cell-index in
     let cells = c.args.cells.now in
-    let is : c.from.result ≡ digit (get_or c.args.cells.now c.loop-cell.cell-index 0) = c.from.ensures ∙ c.digit-of.ensures.is in
+    let is : c.from.result ≡ digit (get_or c.args.cells.now c.loop-cell.cell-index 0) = c.from.ensures ∙ c.digit_of.ensures.is in
     let one = c.push.ensures.ascii (omega (arith, is, digit_ascii (get_or cells i 0))) in
-    c.in-ok-push.ensures.bytes
+    c.in_ok-push.ensures.bytes
     ∙ ap₂ (λ a b. a ++ b) c.loop-cell.invariant (one ∙ ap (λ d. d ∷ []) is)
     ∙ append_assoc (string_bytes c.args.out.now) (map digit (take i cells)) (digit (get_or cells i 0) ∷ [])
     ∙ ap (λ bs. string_bytes c.args.out.now ++ bs) (sym (map_more digit cells i 0 c.loop-cell-test.true))

@@ -6,7 +6,7 @@ pub returns : goal.returns
 returns c =
     let old = string_bytes c.args.out.now in
     let row = map digit c.args.cells.now in
-    c.in-ok-push-str-2.ensures.bytes
-    ∙ ap (λ bs. bs ++ 10 ∷ []) (c.in-ok-push-digits.ensures ∙ ap (λ bs. bs ++ row) c.in-ok-push-str.ensures.bytes)
+    c.in_ok-push_str-2.ensures.bytes
+    ∙ ap (λ bs. bs ++ 10 ∷ []) (c.in_ok-push_digits.ensures ∙ ap (λ bs. bs ++ row) c.in_ok-push_str.ensures.bytes)
     ∙ append_assoc (old ++ codes "row=") row (10 ∷ [])
     ∙ append_assoc old (codes "row=") (row ++ 10 ∷ [])

@@ -13,7 +13,7 @@ pub loop-byte-preserved : goal.loop-byte-preserved
 loop-byte-preserved c =
     let i = c.loop-byte.byte-index in
     let digits = c.args.digits.now in (
-      pushed (c.in-Some.code ∷ []) c.loop-byte.invariant.0 c.in-ok-push.was c.push.ensures.items
+      pushed (c.in-Some.code ∷ []) c.loop-byte.invariant.0 c.in_ok-push-in-Some.was c.push.ensures.items
           ∙ ap (λ code. map code_of (take i digits) ++ code ∷ []) c.in-Some.ensures.1
           ∙ sym (map_more code_of digits i 0 c.loop-byte-test.true),
       c.loop-byte.invariant.1 ∙ digits_more digits i c.loop-byte-test.true c.in-Some.ensures.0,

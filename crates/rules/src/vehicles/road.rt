@@ -79,8 +79,8 @@ impl Vehicles {
 
     // Whether a vehicle stands d columns behind the cell and lands on it.
     fn lands(&self, w: &[u8], t: u32, x: u32, y: u32, width: u32, d: u8) -> bool
-        requires w_len { length w.now ≡ 2 * self.now.a + 1 }
-        requires d_le_a { d ≤ self.now.a }
+        requires whole_window { length w.now ≡ 2 * self.now.a + 1 }
+        requires within_reach { d ≤ self.now.a }
         ensures { result ≡ arrives self.now.a self.now.b self.now.c w.now t x y width d }
     {
         let i = (self.a - d) as usize;

@@ -23,9 +23,9 @@ fn update<R: Rule>(rule: &R, shape: Shape, t: u32, cells: &[u8], i: u32) -> u8
 
 // One sweep, from `cells` into `out`; answers its updates.
 fn sweep_into<R: Rule>(rule: &R, shape: Shape, t: u32, cells: &[u8], out: &mut [u8]) -> u64
-    requires le_width { 1 ≤ shape.width }
-    requires shape_bound { area shape ≤ 16777216 }
-    requires out_len { length out.old ≡ area shape }
+    requires has_columns { 1 ≤ shape.width }
+    requires few_cells { area shape ≤ 16777216 }
+    requires room { length out.old ≡ area shape }
     ensures counts { result ≡ area shape }
     ensures sweeps { out.new ≡ swept (R.Rule.meaning rule.now) shape t cells.now }
 {

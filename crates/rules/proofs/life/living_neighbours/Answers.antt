@@ -5,5 +5,5 @@ use Rattle.rules.proofs.life.living_neighbours.Goals as goal
 
 pub returns : goal.returns
 returns c =
-    ap₂ (λ m n. m + n) c.count-code.ensures.is
-    (c.count-code-2.ensures.is ∙ ap (times 1) (take_rest c.args.window.now 5))
+    ap₂ (λ m n. m + n) c.count_code.ensures.is
+    (c.count_code-2.ensures.is ∙ ap (times 1) (take_rest c.args.window.now 5))

@@ -12,8 +12,8 @@ loop-y-preserved c =
     let below = c.loop-y-test.true in
     rows_more c.args.plate.now.shape.width c.args.plate.now.shape.height (vec_items c.args.plate.now.cells) _ _ _ _ c.loop-y.y
     (omega (arith, height))
-    (c.row-or-none.ensures (omega (arith, height)))
-    c.in-ok-push-row.ensures
+    (c.row_or_none.ensures (omega (arith, height)))
+    c.in_ok-push_row.ensures
     c.loop-y.invariant
 
 pub returns : goal.returns

@@ -6,4 +6,4 @@ pub returns-then-bytes-eq0 : goal.returns-then-bytes-eq0
 returns-then-bytes-eq0 c i = rw (get_or_past c.args.bytes.now i 0 (omega arith)) (omega arith)
 
 pub returns : goal.returns
-returns c i = omega (arith, c.type-inv.bytes i)
+returns c i = omega (arith, c.type_inv.bytes i)

@@ -18,7 +18,7 @@ loop-k-preserved c =
     let small : SFits w32 c.offset.result = search rules in
     let off : to_z w32 (of_z w32 c.offset.result) ≡ pos c.loop-k.k -ℤ pos c.args.columns.reach = to_z-of_z w32 c.offset.result small ∙ c.offset.ensures in (
       subst (λ v. take (c.args.start + (c.loop-k.k + 1)) (set c.loop-k.out (c.args.start + c.loop-k.k) v) ≡ take c.args.start c.args.out.now ++ map (λ i. code (cell_of c.args.shape c.args.cells.now) (place c.args.columns c.args.x i) c.args.row) (take (c.loop-k.k + 1) (offsets c.args.columns.reach)))
-          (sym (c.code-at.ensures ∙ ap (λ p. code (cell_of c.args.shape c.args.cells.now) p c.args.row) (c.place-column.ensures ∙ ap (place c.args.columns c.args.x) off)))
+          (sym (c.code_at.ensures ∙ ap (λ p. code (cell_of c.args.shape c.args.cells.now) p c.args.row) (c.place-column.ensures ∙ ap (place c.args.columns c.args.x) off)))
           (code_more (λ i. code (cell_of c.args.shape c.args.cells.now) (place c.args.columns c.args.x i) c.args.row) c.args.columns.reach c.args.start c.loop-k.k (take c.args.start c.args.out.now) c.loop-k.out (omega arith) (omega (arith, c.loop-k.invariant)) c.loop-k.invariant.0),
       length-set _ _ _ ∙ c.loop-k.invariant.1,
     )

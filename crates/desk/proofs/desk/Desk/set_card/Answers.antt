@@ -5,6 +5,6 @@ use Rattle.desk.proofs.desk.Desk.set_card.Goals as goal
 
 pub returns-in-Ok : goal.returns-in-Ok
 returns-in-Ok c =
-    card_is (desk_of c.args.self.now) c.args.n c.args.worn.now (vec_items c.new.result.memory) c.if-n-gt-MOST-TILES.false
-    (sym c.if-not-all-name-tiles.ensures)
+    card_is (desk_of c.args.self.now) c.args.n c.args.worn.now (vec_items c.new.result.memory) c.if-n-gt-MOST_TILES.false
+    (sym c.if-not-all_name_tiles.ensures)
     (ap vec_items c.new.ensures ∙ c.in-Ok.ensures)

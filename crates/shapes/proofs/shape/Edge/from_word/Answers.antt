@@ -1,5 +1,5 @@
 use Rattle.shapes.proofs.Words.{other_word}
 use Rattle.shapes.proofs.shape.Edge.from_word.Goals as goal
 
-pub returns-in-default : goal.returns-in-default
-returns-in-default c = other_word c.args.word.now c.in-default.not-wall c.in-default.not-ring
+pub returns-in_default : goal.returns-in_default
+returns-in_default c = other_word c.args.word.now c.in_default.not-wall c.in_default.not-ring

@@ -9,5 +9,5 @@ returns g c ok =
     record {
       stays = e.stays;
       reaches = e.reaches;
-      does = tile_read (shelved m c.args.self.now) (shelved m c.touch.new.self) c.args.k _ e.does c.in-ok-touch.was c.args.out.now _ c.read-front.ensures;
+      does = tile_read (shelved m c.args.self.now) (shelved m c.touch.new.self) c.args.k _ e.does c.in_ok-touch.was c.args.out.now _ c.read_front.ensures;
     }

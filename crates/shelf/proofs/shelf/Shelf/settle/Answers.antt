@@ -5,7 +5,7 @@ use Rattle.places.specs.Places.{list_of}
 use Rattle.shelf.specs.Shelf.{shelved}
 use Rattle.shelf.proofs.Calls.{settle_reaches, settled_reaches}
 use Rattle.shelf.proofs.shelf.Shelf.settle.Goals as goal
-use Rattle.shelf.proofs.shelf.Shelf.settle.Goals.{in-Some, in-default}
+use Rattle.shelf.proofs.shelf.Shelf.settle.Goals.{in-Some, in_default}
 
 pub loop-p-init : goal.loop-p-init
 loop-p-init g c ok = (ok.0, refl, refl, refl, refl)
@@ -18,18 +18,18 @@ loop-p-preserved g c ok =
     let p = c.loop-p.p in
     let i = c.loop-p.invariant ok in
     let lt : p < length h0.list = omega (arith, c.loop-p-test.true, c.len-p-end.ensures) in
-    elim c.match-clear-mark.branch [
+    elim c.match-clear_mark.branch [
       | in-Some w ↦
-          let e = next_entry h0.below h.below h0.list h.list p ok.1 lt i.2 i.3 _ (sym w.in-Some.is ∙ c.clear-mark.ensures.was) in
-          let back = w.write-back.ensures i.0 (next_good h0.below h.below h0.list h.list p ok.1 lt i.2 i.3 _ e) in
+          let e = next_entry h0.below h.below h0.list h.list p ok.1 lt i.2 i.3 _ (sym w.in-Some.is ∙ c.clear_mark.ensures.was) in
+          let back = w.write_back.ensures i.0 (next_good h0.below h.below h0.list h.list p ok.1 lt i.2 i.3 _ e) in
           rw w.self-is (
             back.stays,
             settle_reaches g.S.TileStore.steps _ _ _ h0.list p _ lt e i.1 back.reaches,
             next-below h0.below h.below h0.list h.list p ok.1 lt i.2 i.3 _ _ e back.does,
-            next_list h0.below h.below h0.list h.list p ok.1 lt i.2 i.3 _ c.clear-mark.ensures.leaves,
+            next_list h0.below h.below h0.list h.list p ok.1 lt i.2 i.3 _ c.clear_mark.ensures.leaves,
             i.4,
           )
-      | in-default w ↦ absurd (next_some h0.below h.below h0.list h.list p ok.1 lt i.2 i.3 (sym w.in-default.is ∙ c.clear-mark.ensures.was))
+      | in-default w ↦ absurd (next_some h0.below h.below h0.list h.list p ok.1 lt i.2 i.3 (sym w.in_default.is ∙ c.clear_mark.ensures.was))
     ]
 
 pub returns : goal.returns

@@ -5,8 +5,8 @@ use Rattle.stores.specs.Overwriting.{part_low}
 use Rattle.stores.specs.Packed.{packed_all}
 use Rattle.stores.proofs.bits.packing.pack.Goals as goal
 
-pub pack-byte-requires : goal.pack-byte-requires
-pack-byte-requires c = record {
+pub pack_byte-requires : goal.pack_byte-requires
+pack_byte-requires c = record {
   eight = simp (length-take, length-drop) (omega arith);
   low = part_low c.args.codes.now (8 * c.loop-j.j) (8 * c.loop-j.j + 8 - 8 * c.loop-j.j) 1 c.requires;
 }
@@ -18,7 +18,7 @@ loop-j-preserved c =
       simp length-set (omega arith),
       below_more _ _
           (λ i h. let ne : i ≢ j = omega arith in rw get_or-set_other (c.loop-j.invariant.1 i h))
-          (let lt : j < length c.loop-j.bytes = omega arith in rw get_or-set_same (c.pack-byte.ensures ∙ ap (λ n. byte_of (take n (drop (8 * j) c.args.codes.now))) w)),
+          (let lt : j < length c.loop-j.bytes = omega arith in rw get_or-set_same (c.pack_byte.ensures ∙ ap (λ n. byte_of (take n (drop (8 * j) c.args.codes.now))) w)),
     )
 
 pub returns : goal.returns

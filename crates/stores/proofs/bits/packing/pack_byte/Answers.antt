@@ -7,11 +7,11 @@ use Rattle.stores.proofs.bits.packing.pack_byte.Goals as goal
 pub loop-i-init : goal.loop-i-init
 loop-i-init c = ap byte_of (sym (drop_all 8 c.args.codes.now (omega arith)))
 
-pub overflow-mul-byte : goal.overflow-mul-byte
-overflow-mul-byte c = omega (arith, rest_small c.args.codes.now c.loop-i.i c.requires.eight c.requires.low c.loop-i-test.true, c.loop-i.invariant)
+pub overflow_mul-byte : goal.overflow_mul-byte
+overflow_mul-byte c = omega (arith, rest_small c.args.codes.now c.loop-i.i c.requires.eight c.requires.low c.loop-i-test.true, c.loop-i.invariant)
 
-pub overflow-add-byte : goal.overflow-add-byte
-overflow-add-byte c = omega (arith, rest_small c.args.codes.now c.loop-i.i c.requires.eight c.requires.low c.loop-i-test.true, c.loop-i.invariant, c.requires.low (c.loop-i.i - 1))
+pub overflow_add-byte : goal.overflow_add-byte
+overflow_add-byte c = omega (arith, rest_small c.args.codes.now c.loop-i.i c.requires.eight c.requires.low c.loop-i-test.true, c.loop-i.invariant, c.requires.low (c.loop-i.i - 1))
 
 pub loop-i-preserved : goal.loop-i-preserved
 loop-i-preserved c =

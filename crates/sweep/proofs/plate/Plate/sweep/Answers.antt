@@ -8,14 +8,14 @@ use Rattle.sweep.proofs.plate.Plate.sweep.Goals as goal
 
 pub loop-k-preserved : goal.loop-k-preserved
 loop-k-preserved g c =
-    let e = c.sweep-once-updates.ensures in
+    let e = c.sweep_once-updates.ensures in
     let i = c.loop-k.invariant in
-    let more = sweeps_more (g.R.Rule.meaning c.args.self.now.rule) c.args.self.now.shape c.args.self.now.step c.loop-k.-k (vec_items c.args.self.now.cells) in
+    let more = sweeps_more (g.R.Rule.meaning c.args.self.now.rule) c.args.self.now.shape c.args.self.now.step c.loop-k._k (vec_items c.args.self.now.cells) in
     let same : area c.loop-k.self.shape ≡ area c.args.self.now.shape = ap area i.0 in (
       e.shape ∙ i.0,
       e.rule ∙ i.1,
       omega (arith, e.later, i.2),
-      omega (arith, e.counts, i.3, same, add-mul c.loop-k.-k 1 (area c.args.self.now.shape)),
+      omega (arith, e.counts, i.3, same, add-mul c.loop-k._k 1 (area c.args.self.now.shape)),
       (let s = e.sweeps in let a = i.0 in let b = i.1 in let d = i.2 in let f = i.4 in cc),
     )
 
@@ -25,5 +25,5 @@ returns g c =
     record {
       does = search rules;
       rule = c.loop-k.invariant.1;
-      low = λ h. subst (λ cells. within r.top cells ≡ true) (sym c.loop-k.invariant.4) (sweeps_low r (g.met.R.Rule.lawful c.args.self.now.rule) c.args.self.now.shape c.args.self.now.step c.loop-k.-k (vec_items c.args.self.now.cells) h);
+      low = λ h. subst (λ cells. within r.top cells ≡ true) (sym c.loop-k.invariant.4) (sweeps_low r (g.met.R.Rule.lawful c.args.self.now.rule) c.args.self.now.shape c.args.self.now.step c.loop-k._k (vec_items c.args.self.now.cells) h);
     }

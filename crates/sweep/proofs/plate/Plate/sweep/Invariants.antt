@@ -8,6 +8,6 @@ abbrev pub invariant-loop-k : goal.invariant-loop-k
 invariant-loop-k g l =
     (l.self.shape ≡ l.initial.self.shape)
     × (l.self.rule ≡ l.initial.self.rule)
-    × (l.self.step ≡ l.initial.self.step + l.-k)
-    × (l.updates ≡ l.-k * area l.initial.self.shape)
-    × (vec_items l.self.cells ≡ sweeps (g.R.Rule.meaning l.initial.self.rule) l.initial.self.shape l.initial.self.step l.-k (vec_items l.initial.self.cells))
+    × (l.self.step ≡ l.initial.self.step + l._k)
+    × (l.updates ≡ l._k * area l.initial.self.shape)
+    × (vec_items l.self.cells ≡ sweeps (g.R.Rule.meaning l.initial.self.rule) l.initial.self.shape l.initial.self.step l._k (vec_items l.initial.self.cells))

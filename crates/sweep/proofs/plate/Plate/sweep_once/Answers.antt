@@ -7,10 +7,10 @@ pub returns : goal.returns
 returns g c = record {
   counts = search rules;
   sweeps =
-      ap vec_items c.swap.ensures.x-after
-      ∙ with_items_is c.args.self.now.spare c.sweep-into-updates.new.out (omega arith)
-      ∙ c.sweep-into-updates.ensures.sweeps
-      ∙ ap (swept (g.R.Rule.meaning c.args.self.now.rule) c.args.self.now.shape c.args.self.now.step) c.as-slice.ensures.value;
+      ap vec_items c.swap.ensures.x_after
+      ∙ with_items_is c.args.self.now.spare c.sweep_into-updates.new.out (omega arith)
+      ∙ c.sweep_into-updates.ensures.sweeps
+      ∙ ap (swept (g.R.Rule.meaning c.args.self.now.rule) c.args.self.now.shape c.args.self.now.step) c.as_slice.ensures.value;
   later = search rules;
   shape = search rules;
   rule = search rules;

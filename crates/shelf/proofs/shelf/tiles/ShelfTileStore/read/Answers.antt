@@ -7,7 +7,7 @@ use Rattle.shelf.proofs.shelf.tiles.ShelfTileStore.read.Goals as goal
 pub returns : goal.returns
 returns g c =
     let h = shelved g.S.TileStore.meaning c.args.self.now in
-    let e = c.read-whole.ensures in
+    let e = c.read_whole.ensures in
     record {
       does = λ ok. record { stays = (e ok).stays; does = read_as h _ c.args.k _ _ _ (e ok).does };
       steps = λ ok. record { after = (e ok).does.touches.after ∙ ap (λ z. touched_if z h c.args.k) (e ok).does.touches.answer; below = (e ok).reaches };

@@ -8,7 +8,7 @@ pub returns-then-k-count : goal.returns-then-k-count
 returns-then-k-count c =
     let v = c.args.self.now.memory in
     let h : tiles_in bits_layout (vec_items v) ≤ c.args.k = omega (arith, v.ok.0) in
-    record { does = image-read-past bits_layout (vec_items v) c.args.k _ _ h (ap Err c.past-count.ensures); raw = refl }
+    record { does = image-read-past bits_layout (vec_items v) c.args.k _ _ h (ap Err c.past_count.ensures); raw = refl }
 
 pub returns : goal.returns
 returns c =

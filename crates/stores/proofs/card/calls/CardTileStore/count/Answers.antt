@@ -7,5 +7,5 @@ use Rattle.stores.proofs.card.calls.CardTileStore.count.Goals as goal
 pub returns : goal.returns
 returns c =
     let v = c.args.self.now.memory in
-    let whole = c.whole-tiles.ensures ∙ ap (whole_tiles 65) c.len.ensures in
+    let whole = c.whole_tiles.ensures ∙ ap (whole_tiles 65) c.len.ensures in
     record { counts = whole ∙ ap (whole_tiles 65) v.ok.0 ∙ sym (image-count card_layout (vec_items v)); whole = whole }

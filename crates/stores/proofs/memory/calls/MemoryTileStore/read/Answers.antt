@@ -7,7 +7,7 @@ pub returns-then-k-count : goal.returns-then-k-count
 returns-then-k-count c =
     let v = c.args.self.now.memory in
     let h : tiles_in plain_layout (vec_items v) ≤ c.args.k = omega (arith, v.ok.0) in
-    record { does = image-read-past plain_layout (vec_items v) c.args.k _ _ h (ap Err c.past-count.ensures); raw = refl }
+    record { does = image-read-past plain_layout (vec_items v) c.args.k _ _ h (ap Err c.past_count.ensures); raw = refl }
 
 pub returns : goal.returns
 returns c =
@@ -15,4 +15,4 @@ returns c =
     let k = c.args.k in
     let h : k < tiles_in plain_layout (vec_items v) = omega (arith, v.ok.0) in
     let tile = taken (k * 64) (k * 64 + 64 - k * 64) (start plain_layout k) 64 _ (vec_items v) (omega arith) (omega arith) c.deref.ensures.value in
-    record { does = image-read plain_layout (vec_items v) k _ _ _ h refl (c.copy-from-slice.ensures.after ∙ tile); raw = refl }
+    record { does = image-read plain_layout (vec_items v) k _ _ _ h refl (c.copy_from_slice.ensures.after ∙ tile); raw = refl }

@@ -1,8 +1,0 @@
-use Rattle.piles.specs.Lawful.{intact}
-use Rattle.piles.proofs.shelved.ShelvedPile.read_below.Goals as goal
-
-pub invariant-of-self : goal.invariant-of-self
-invariant-of-self c = (∣ (c.read-below.ensures (intact c.args.self.now)).stays.1 ∣₁, tt)
-
-pub returns : goal.returns
-returns c = (c.read-below.ensures (intact c.args.self.now)).does
