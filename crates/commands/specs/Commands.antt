@@ -1,5 +1,5 @@
 -- The commands of a scenario, by their words.
-use Rattle.std.specs.Prelude.{ℕ, ◌-◌, Bool, cond, ◌&&◌, List, [], map, Some, None, codes, Option, ◌==◌, nat_le, slice_index, slice_index_or}
+use Rattle.std.specs.Prelude.{ℕ, ◌-◌, cond, List, [], map, Some, None, codes, Option, ◌==◌, nat_le, slice_index, slice_index_or}
 use Rattle.std.specs.List.{range_with_len}
 use Rattle.std.specs.Borrow.{Bor}
 use Rattle.std.specs.Str.{bytes_eq}

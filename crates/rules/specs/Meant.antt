@@ -1,5 +1,4 @@
 -- The rules of this crate, as their values in the code mean them.
-use Rattle.std.specs.Prelude.{ℕ}
 use Rattle.rules.specs.declared.choice.AnyRule.{AnyRule}
 use Rattle.rules.specs.declared.choice.AnyRule.TheVariants as choice
 use Rattle.rules.specs.declared.vehicles.Vehicles.{Vehicles}

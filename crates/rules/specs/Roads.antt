@@ -1,9 +1,9 @@
 -- Gaps and arrivals on a road, and why at most one vehicle lands on a cell.
-use Rattle.std.specs.Prelude.{◌≡◌, ℕ, zero, suc, ◌+◌, ◌-◌, ◌*◌, ◌<◌, ◌≤◌, min, Bool, true, false, cond, ◌&&◌, ◌⊎◌, List, [], ◌∷◌, length, ◌==◌, ◌≢◌, slice_index, slice_index_or, refl}
+use Rattle.std.specs.Prelude.{◌≡◌, ℕ, zero, suc, ◌+◌, ◌-◌, ◌<◌, ◌≤◌, Bool, true, false, cond, ◌⊎◌, List, ◌==◌, ◌≢◌, slice_index, slice_index_or, refl}
 use Rattle.std.proofs.Common.{sym, ap, subst, ◌∙◌, inl, inr, ⊎_elim, true≢false, arith}
 use Rattle.std.proofs.lemmas.Bool.{eq-eqb, ne_eqb, cond_both, cond-true, cond-false, cases_eq, cases_order}
 use Rattle.std.proofs.lemmas.Bool.Decides.{nat_tests}
-use Rattle.rules.specs.Vehicles.{draw, gap, v1, v2, v3, column_behind, arrives, arrival, Lands, Moved}
+use Rattle.rules.specs.Vehicles.{gap, v3, column_behind, arrives, arrival, Lands, Moved}
 
 pub gap_empty : (w : List ℕ) (i n g : ℕ) → g < n → slice_index w (i + g + 1) ≡ 0 → gap w (i + g) (n - g) ≡ 1 + gap w (i + (g + 1)) (n - (g + 1))
 gap_empty w i n g h z =

@@ -1,6 +1,6 @@
 -- Nagel and Schreckenberg's vehicles: top speed a, brake b, seed c. Code 1+v is a vehicle of speed v, code 0 an empty cell.
 -- A window has 2a+1 codes, the cell itself at place a, so that the cell d columns behind it is at place a−d.
-use Rattle.std.specs.Prelude.{◌≡◌, ℕ, zero, suc, ◌+◌, ◌-◌, ◌*◌, ◌/◌, ◌%◌, ◌^◌, ◌≤◌, min, Bool, true, cond, ◌&&◌, List, pos, ◌-ℤ◌, Ok, Result, ◌==◌, nat_le, nat_lt, slice_index}
+use Rattle.std.specs.Prelude.{◌≡◌, ℕ, zero, suc, ◌+◌, ◌-◌, ◌*◌, ◌/◌, ◌%◌, ◌^◌, ◌≤◌, min, Bool, cond, ◌&&◌, List, pos, ◌-ℤ◌, Ok, Result, ◌==◌, nat_le, nat_lt, slice_index}
 use Rattle.refusals.specs.declared.five.FiveNumbers.{FiveNumbers}
 use Rattle.refusals.specs.declared.refusal.Refusal.TheVariants.{VehicleLimits}
 use Rattle.refusals.specs.Reported.{refuse}

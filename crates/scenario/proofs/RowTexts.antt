@@ -1,5 +1,5 @@
 -- The rows of a plate in print, one after the other.
-use Rattle.std.proofs.Common.{◌≡◌, ℕ, suc, ◌+◌, ◌-◌, ◌*◌, ◌<◌, ◌≤◌, List, [], ◌++◌, take, drop, sym, refl, ap, ◌∙◌, ap₂, append_assoc, append-nil, add-mul, arith}
+use Rattle.std.proofs.Common.{◌≡◌, ℕ, suc, ◌+◌, ◌-◌, ◌*◌, ◌<◌, ◌≤◌, List, [], ◌++◌, take, drop, sym, ap, ◌∙◌, ap₂, append_assoc, append-nil, add-mul, arith}
 use Rattle.std.proofs.lemmas.List.{drop-drop}
 use Rattle.digits.specs.Digits.{row_line, row_lines}
 

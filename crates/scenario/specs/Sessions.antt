@@ -9,7 +9,7 @@ use Rattle.rules.specs.Life as rules
 use Rattle.rules.specs.Vehicles.{vehicles_made}
 use Rattle.rules.specs.Meant.{any_of}
 use Rattle.shapes.specs.declared.shape.Shape.{Shape}
-use Rattle.sweep.specs.Plain.{Plain, Out, laid, puts_row, sweeps_on}
+use Rattle.sweep.specs.Plain.{Plain, laid, puts_row, sweeps_on}
 use Rattle.sweep.specs.Plate.{plain_of, rule_of}
 use Rattle.digits.specs.Digits.{row_read}
 use Rattle.scenario.specs.declared.reply.Reply.{Reply}

@@ -1,5 +1,5 @@
 -- Shapes, and which of them a lattice may have.
-use Rattle.std.specs.Prelude.{ℕ, ◌+◌, ◌*◌, ◌≤◌, Bool, true, false, cond, ◌&&◌, List, Some, None, Ok, Err, codes, Option, Result, nat_le}
+use Rattle.std.specs.Prelude.{ℕ, ◌*◌, ◌≤◌, Bool, true, false, cond, ◌&&◌, List, Some, None, Ok, codes, Option, Result, nat_le}
 use Rattle.std.specs.Str.{bytes_eq}
 use Rattle.refusals.specs.declared.five.FiveNumbers.{FiveNumbers}
 use Rattle.refusals.specs.declared.refusal.Refusal.TheVariants as refusal

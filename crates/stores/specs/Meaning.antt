@@ -1,5 +1,5 @@
 -- What a store is: one meaning for every store, and what its four calls answer and leave.
-use Rattle.std.specs.Prelude.{◌≡◌, ℕ, ◌<◌, ◌≤◌, Bool, true, false, cond, List, [], ◌∷◌, length, set, Some, None, Ok, Err, Option, Result, nat_lt, slice_index, slice_index_or, slice_set}
+use Rattle.std.specs.Prelude.{◌≡◌, ℕ, ◌<◌, ◌≤◌, Bool, true, false, cond, List, [], ◌∷◌, length, Some, None, Ok, Err, Option, Result, nat_lt, slice_index, slice_index_or, slice_set}
 use Rattle.refusals.specs.declared.fault.Fault.{Fault}
 
 -- a store, to whoever calls it

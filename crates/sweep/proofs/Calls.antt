@@ -1,5 +1,5 @@
 -- What a call does, once its tests have passed, and what a refused one leaves.
-use Rattle.std.proofs.Common.{◌≡◌, ℕ, ◌+◌, ◌*◌, ◌<◌, ◌≤◌, Bool, true, false, cond, ◌&&◌, leb, List, ◌++◌, length, take, drop, Ok, Err, refl, arith}
+use Rattle.std.proofs.Common.{◌≡◌, ℕ, ◌+◌, ◌*◌, ◌<◌, ◌≤◌, Bool, true, false, cond, ◌&&◌, leb, List, ◌++◌, length, take, drop, Err, refl, arith}
 use Rattle.refusals.specs.declared.five.FiveNumbers.{FiveNumbers}
 use Rattle.refusals.specs.declared.refusal.Refusal.TheVariants.{Steps}
 use Rattle.std.proofs.lemmas.Bool.{le-leb, lt-ltb}

@@ -1,5 +1,5 @@
 -- A lattice as the plain rules see it, and what each call on it answers and leaves.
-use Rattle.std.specs.Prelude.{◌≡◌, ℕ, ◌+◌, ◌*◌, Bool, true, false, cond, ◌&&◌, List, ◌++◌, length, take, drop, replicate, Ok, Err, Result, nat_le, nat_lt, slice_set}
+use Rattle.std.specs.Prelude.{◌≡◌, ℕ, ◌+◌, ◌*◌, Bool, true, cond, ◌&&◌, List, ◌++◌, length, take, drop, replicate, Ok, Err, Result, nat_le, nat_lt, slice_set}
 use Rattle.refusals.specs.declared.five.FiveNumbers.{FiveNumbers}
 use Rattle.refusals.specs.declared.refusal.Refusal.{Refusal}
 use Rattle.refusals.specs.declared.refusal.Refusal.TheVariants.{Outside, HighCode, Steps}
@@ -8,7 +8,6 @@ use Rattle.rules.specs.Codes.{within}
 use Rattle.rules.specs.Rule.{RuleMeaning}
 use Rattle.shapes.specs.declared.shape.Shape.{Shape}
 use Rattle.shapes.specs.Shape.{area, shaped, suited}
-use Rattle.sweep.specs.Window.{Cell}
 use Rattle.sweep.specs.Sweep.{index, cell_of, sweeps}
 
 -- the shape, the step, and the codes of the cells by index

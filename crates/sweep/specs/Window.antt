@@ -1,5 +1,5 @@
 -- The window of a cell.
-use Rattle.std.specs.Prelude.{ℕ, List, map, ℤ, Some, None, Option}
+use Rattle.std.specs.Prelude.{ℕ, List, map, Some, None, Option}
 use Rattle.std.specs.List.{flat_map}
 use Rattle.shapes.specs.declared.shape.Axis.{Axis}
 use Rattle.shapes.specs.Axis.{place, offsets}

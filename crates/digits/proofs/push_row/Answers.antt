@@ -1,4 +1,4 @@
-use Rattle.std.proofs.Common.{◌≡◌, [], ◌∷◌, ◌++◌, map, string_bytes, codes, ap, ◌∙◌, append_assoc}
+use Rattle.std.proofs.Common.{[], ◌∷◌, ◌++◌, map, string_bytes, codes, ap, ◌∙◌, append_assoc}
 use Rattle.digits.specs.Digits.{digit}
 use Rattle.digits.proofs.push_row.Goals as goal
 

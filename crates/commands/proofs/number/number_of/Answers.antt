@@ -1,4 +1,4 @@
-use Rattle.std.proofs.Common.{◌≡◌, sym, ◌∙◌, arith}
+use Rattle.std.proofs.Common.{sym, ◌∙◌, arith}
 use Rattle.commands.proofs.Numbers.{one_more, none_more, no_more}
 use Rattle.commands.proofs.number.number_of.Goals as goal
 

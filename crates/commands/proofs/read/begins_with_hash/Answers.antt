@@ -1,4 +1,4 @@
-use Rattle.std.proofs.Common.{◌≡◌, false, eqb, sym, ap}
+use Rattle.std.proofs.Common.{eqb, sym, ap}
 use Rattle.std.proofs.lemmas.List.{get_or_past}
 use Rattle.commands.proofs.read.begins_with_hash.Goals as goal
 

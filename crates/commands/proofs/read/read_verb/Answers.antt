@@ -1,4 +1,4 @@
-use Rattle.std.proofs.Common.{◌≡◌, codes, ◌∙◌}
+use Rattle.std.proofs.Common.{codes, ◌∙◌}
 use Rattle.commands.specs.Commands.{word_at}
 use Rattle.commands.proofs.Choosing.{passes}
 use Rattle.commands.proofs.read.read_verb.Goals as goal

@@ -1,4 +1,4 @@
-use Rattle.std.proofs.Common.{◌≡◌, ◌-◌, map, length, sym, ap, ◌∙◌, arith}
+use Rattle.std.proofs.Common.{◌-◌, map, length, sym, ap, ◌∙◌, arith}
 use Rattle.std.proofs.lemmas.List.{take_rest}
 use Rattle.commands.specs.Commands.{store, card, word_at}
 use Rattle.commands.specs.Numerals.{numeral}

@@ -1,4 +1,4 @@
-use Rattle.std.proofs.Common.{◌≡◌, codes, refl, ◌∙◌}
+use Rattle.std.proofs.Common.{codes, refl, ◌∙◌}
 use Rattle.commands.specs.Commands.{word_at}
 use Rattle.commands.proofs.Choosing.{passes}
 use Rattle.commands.proofs.stores.read_store_verb.Goals as goal

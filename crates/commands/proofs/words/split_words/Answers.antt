@@ -1,7 +1,6 @@
-use Rattle.std.proofs.Common.{◌≡◌, [], ◌∷◌, map, vec_items, refl, ap, ◌∙◌}
+use Rattle.std.proofs.Common.{map, vec_items, ap, ◌∙◌}
 use Rattle.std.specs.Str.Iter.{split_whitespace_rest}
 use Rattle.std.proofs.lemmas.List.{map_push}
-use Rattle.std.proofs.lemmas.Slice.{pushed}
 use Rattle.commands.proofs.Splits.{none_yet, first_of, one_more, no_more}
 use Rattle.commands.proofs.words.split_words.Goals as goal
 

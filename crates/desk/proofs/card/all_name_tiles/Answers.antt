@@ -1,4 +1,4 @@
-use Rattle.std.proofs.Common.{◌≡◌, sym, ◌∙◌}
+use Rattle.std.proofs.Common.{sym, ◌∙◌}
 use Rattle.desk.proofs.Naming.{fit_more, fit_fails, fit_all}
 use Rattle.desk.proofs.card.all_name_tiles.Goals as goal
 

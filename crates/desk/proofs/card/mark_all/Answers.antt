@@ -1,4 +1,4 @@
-use Rattle.std.proofs.Common.{◌≡◌, sym, ◌∙◌}
+use Rattle.std.proofs.Common.{sym, ◌∙◌}
 use Rattle.desk.proofs.Naming.{marked_more, marked_all}
 use Rattle.desk.proofs.card.mark_all.Goals as goal
 

@@ -1,4 +1,4 @@
-use Rattle.std.proofs.Common.{◌≡◌, ◌+◌, ap, ◌∙◌, ap₂}
+use Rattle.std.proofs.Common.{◌+◌, ap, ◌∙◌, ap₂}
 use Rattle.std.proofs.lemmas.List.{take_rest}
 use Rattle.rules.specs.Codes.{times}
 use Rattle.rules.proofs.life.living_neighbours.Goals as goal

@@ -1,4 +1,4 @@
-use Rattle.std.proofs.Common.{◌≡◌, vec_items, ap, arith}
+use Rattle.std.proofs.Common.{vec_items, ap, arith}
 use Rattle.shapes.specs.declared.shape.Shape.{Shape}
 use Rattle.scenario.proofs.RowTexts.{rows_none, rows_more, rows_all}
 use Rattle.scenario.proofs.rows.rows_text.Goals as goal

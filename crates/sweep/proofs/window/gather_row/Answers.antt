@@ -1,4 +1,4 @@
-use Rattle.std.proofs.Common.{◌≡◌, ◌+◌, ◌*◌, ◌++◌, map, take, set, ℤ, pos, ◌-ℤ◌, sym, ap, ◌∙◌, subst, append-nil, arith, w32, SFits, to_z, of_z, rules}
+use Rattle.std.proofs.Common.{◌≡◌, ◌+◌, ◌*◌, ◌++◌, map, take, set, pos, ◌-ℤ◌, sym, ap, ◌∙◌, subst, append-nil, arith, w32, SFits, to_z, of_z, rules}
 use Rattle.std.proofs.lemmas.List.{length-set}
 use Rattle.std.proofs.lemmas.Int.{to_z-of_z}
 use Rattle.shapes.specs.Axis.{place, offsets}

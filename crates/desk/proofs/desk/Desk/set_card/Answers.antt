@@ -1,4 +1,4 @@
-use Rattle.std.proofs.Common.{◌≡◌, vec_items, sym, ap, ◌∙◌}
+use Rattle.std.proofs.Common.{vec_items, sym, ap, ◌∙◌}
 use Rattle.desk.specs.Desks.{desk_of}
 use Rattle.desk.proofs.Naming.{card_is}
 use Rattle.desk.proofs.desk.Desk.set_card.Goals as goal

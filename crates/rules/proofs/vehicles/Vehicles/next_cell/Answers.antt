@@ -1,4 +1,4 @@
-use Rattle.std.proofs.Common.{◌≡◌, ◌+◌, sym, ◌∙◌, arith}
+use Rattle.std.proofs.Common.{◌+◌, sym, ◌∙◌, arith}
 use Rattle.rules.specs.Roads.{arrival_here, arrival-later}
 use Rattle.rules.proofs.vehicles.Vehicles.next_cell.Goals as goal
 

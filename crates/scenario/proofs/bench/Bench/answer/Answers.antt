@@ -1,4 +1,4 @@
-use Rattle.std.proofs.Common.{◌≡◌, map, length, vec_items, ap, ◌∙◌, subst}
+use Rattle.std.proofs.Common.{map, length, vec_items, ap, ◌∙◌, subst}
 use Rattle.commands.specs.Commands.{asked_of, word_at, command_of}
 use Rattle.commands.specs.Words.{Words}
 use Rattle.scenario.specs.Benches.{bench_of}

@@ -1,4 +1,4 @@
-use Rattle.std.proofs.Common.{◌≡◌, ◌+◌, ◌*◌, true, ◌++◌, length, take, drop, Ok, vec_items, sym, refl, ap, ◌∙◌, subst, ap₂, arith}
+use Rattle.std.proofs.Common.{◌≡◌, ◌+◌, true, ◌++◌, length, take, drop, Ok, vec_items, sym, refl, ap, ◌∙◌, subst, ap₂, arith}
 use Rattle.std.specs.Vec.{with_items}
 use Rattle.std.proofs.lemmas.List.{with_items_is}
 use Rattle.rules.specs.declared.numbers.RuleNumbers.{RuleNumbers}

@@ -1,4 +1,4 @@
-use Rattle.std.proofs.Common.{◌≡◌, ◌+◌, ◌*◌, ◌≤◌, refl, mul-le-mul_right, mul_comm, add-mul, arith}
+use Rattle.std.proofs.Common.{◌+◌, ◌*◌, ◌≤◌, refl, mul-le-mul_right, mul_comm, add-mul, arith}
 use Rattle.sweep.proofs.plate.Plate.row_start.Goals as goal
 
 pub returns : goal.returns

@@ -1,6 +1,5 @@
-use Rattle.std.proofs.Common.{◌≡◌, ◌+◌, ◌*◌, true, vec_items, sym, ap, ◌∙◌, subst, add-mul, arith, rules}
+use Rattle.std.proofs.Common.{◌≡◌, true, vec_items, sym, ap, ◌∙◌, subst, add-mul, arith, rules}
 use Rattle.shapes.specs.Shape.{area}
-use Rattle.sweep.specs.Sweep.{swept, sweeps}
 use Rattle.rules.specs.Codes.{within}
 use Rattle.sweep.proofs.Low.{sweeps_low}
 use Rattle.sweep.proofs.Sweeping.{sweeps_more}

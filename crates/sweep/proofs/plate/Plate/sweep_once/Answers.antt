@@ -1,4 +1,4 @@
-use Rattle.std.proofs.Common.{◌≡◌, vec_items, ap, ◌∙◌, arith, rules}
+use Rattle.std.proofs.Common.{vec_items, ap, ◌∙◌, arith, rules}
 use Rattle.std.proofs.lemmas.List.{with_items_is}
 use Rattle.sweep.specs.Sweep.{swept}
 use Rattle.sweep.proofs.plate.Plate.sweep_once.Goals as goal

@@ -1,4 +1,4 @@
-use Rattle.std.proofs.Common.{◌≡◌, ℕ, ◌<◌, length, get_or}
+use Rattle.std.proofs.Common.{◌≡◌, ℕ, ◌<◌, get_or}
 use Rattle.sweep.specs.Sweep.{cell_next, cell_at}
 use Rattle.sweep.proofs.plate.once.sweep_into.Given as goal
 
