@@ -1,1 +1,3 @@
 pub mod Piles
+pub mod Shelved
+pub mod Lawful

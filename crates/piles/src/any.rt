@@ -1,9 +1,6 @@
 ghost use Rattle.std.specs.Prelude.{◌≡◌};
 ghost use Rattle.piles.specs.Piles.{any_store_of};
-ghost use Rattle.stores.specs.Layouts.{plain_layout, card_layout, bits_layout};
-ghost use Rattle.stores.specs.Images.{image_lawful};
-ghost use Rattle.stores.specs.LayoutsLemmas.{plain_sound, card_sound, bits_sound};
-ghost use Rattle.piles.specs.declared.choice.AnyStore.TheVariants.{Memory, Card, Bits};
+ghost use Rattle.piles.specs.Lawful.{any_lawful};
 
 use super::choice::AnyStore;
 use refusals::Fault;
@@ -14,11 +11,7 @@ impl TileStore for AnyStore {
 
     ghost intact = { λ _. Unit {0} };
 
-    ghost lawful = { elim [
-      | Memory s ↦ λ _. image_lawful plain_layout s.memory.items plain_sound s.bytes
-      | Card s ↦ λ _. image_lawful card_layout s.memory.items card_sound s.bytes
-      | Bits s ↦ λ _. image_lawful bits_layout s.memory.items bits_sound s.bytes
-    ] };
+    ghost lawful = { λ s _. any_lawful s };
 
     fn count(&self) -> u32 {
         match self {

@@ -1,7 +1,10 @@
-//! Stores that are chosen while a program runs.
+//! Stores that are chosen while a program runs, with a window over them or not, and with a shelf or not.
 #![tactic(auto)]
 
 mod any;
 mod choice;
+mod pile;
+mod shelved;
 
-pub use choice::AnyStore;
+pub use choice::{AnyStore, Pile};
+pub use shelved::ShelvedPile;

@@ -100,3 +100,13 @@ pub record WrittenAs (s : Store) (k : ℕ) (bytes : List ℕ) (r : Result (Unit 
 pub record Done (Intact Does : Type 0) : Type 0 where
   pub stays : Intact
   pub does : Does
+
+-- an access to the tiles of a store
+pub data Access : Type 0 where
+  reading : ℕ → Access
+  writing : ℕ → List ℕ → Access
+
+-- accesses one after the other take the value s to s', where steps tells what an access makes of a value
+abbrev pub Reached : {S : Type 0} → (S → Access → S → Type 0) → S → List Access → S → Type 0
+Reached {S} steps s [] s' = s' ≡ s
+Reached {S} steps s (a ∷ later) s' = (m : S) × steps s a m × Reached steps m later s'

@@ -1,12 +1,12 @@
 -- A window over a lawful store is a lawful store, and answers by the store below.
 use Rattle.std.specs.Prelude.{◌≡◌, ℕ, zero, suc, ◌+◌, ◌-◌, ◌^◌, ◌<◌, min, false, List, [], ◌∷◌, map, length, take, drop, IsErrAnd, Some, None, Ok, Err, Option, Result, slice_set, refl}
-use Rattle.std.proofs.Common.{sym, ap, ◌∙◌, inl, inr, arith}
+use Rattle.std.proofs.Common.{sym, ap, subst, ◌∙◌, inl, inr, arith}
 use Rattle.std.proofs.lemmas.List.{length-take, length-drop, length-map, get_or-take, get_or-drop, get_or-map, get_or_past, drop-set-add}
-use Rattle.std.proofs.lemmas.Bool.{cases_lt}
+use Rattle.std.proofs.lemmas.Bool.{cases_lt, lt-ltb}
 use Rattle.std.proofs.lemmas.Result.{err_from_is_err_and}
 use Rattle.refusals.specs.declared.fault.Fault.{Fault}
-use Rattle.stores.specs.Meaning.{Store, Lawful, ReadAs, WrittenAs, Done, count, tile_of, fault_of, any_above, unless_fault, buffer_after, store_after}
-use Rattle.stores.specs.Layers.{raised, passed_on, window}
+use Rattle.stores.specs.Meaning.{Store, Lawful, Access, reading, writing, Reached, ReadAs, WrittenAs, Done, count, tile_of, fault_of, any_above, unless_fault, buffer_after, store_after}
+use Rattle.stores.specs.Layers.{raised, passed_on, window, accesses}
 use Rattle.stores.specs.Calls.{read-within, write-within}
 
 -- an answer that is passed on is accepted or refused as it was
@@ -96,6 +96,18 @@ module _ (b : Store) (s m : ℕ) where
 -- a refusal that leaves a call by a `?` is the one that came
 pub left_by : (q r : Result (Unit {0}) Fault) (f : Fault) → IsErrAnd q (λ e. e ≡ f) → r ≡ Err f → q ≡ r
 left_by q r f e p = let z = err_from_is_err_and q e in z.1 ∙ ap Err z.2 ∙ sym p
+
+-- the one access to the store below, as the program makes it: Kept is what that store keeps
+module _ (b : Store) (s m k n at : ℕ) (Kept : Type 0) (lawful : Kept → Lawful b) (counted : Kept → n ≡ count (window s m b)) (h : k < n) (sum : at ≡ min (s + k) (2 ^ 32 - 1)) where
+  pub reads_step : {S : Type 0} (steps : S → Access → S → Type 0) (x y : S) → (Kept → steps x (reading at) y) → Kept → Reached steps x (accesses s m b (reading k)) y
+  reads_step steps x y did ok =
+      let w : k < count (window s m b) = rw (counted ok) at h in
+      rw (lt-ltb k (count (window s m b)) w) (y, subst (λ n. steps x (reading n) y) (at_below b s m (lawful ok) k w at sum) (did ok), refl)
+
+  pub writes_step : {S : Type 0} (steps : S → Access → S → Type 0) (x y : S) (bytes : List ℕ) (top : ℕ) → (Kept → top ≡ b.top) → any_above top bytes ≡ false → (Kept → steps x (writing at bytes) y) → Kept → Reached steps x (accesses s m b (writing k bytes)) y
+  writes_step steps x y bytes top topped low did ok =
+      let w : k < count (window s m b) = rw (counted ok) at h in
+      rw (lt-ltb k (count (window s m b)) w, rw (topped ok) at low) (y, subst (λ n. steps x (writing n bytes) y) (at_below b s m (lawful ok) k w at sum) (did ok), refl)
 
 -- the calls of a window as the program makes them: Kept is what the store below keeps before the call, and Kept' after it
 module _ (b b' : Store) (s m k n at : ℕ) (Kept Kept' : Type 0) (lawful : Kept → Lawful b) (counted : Kept → n ≡ count (window s m b)) (h : k < n) (sum : at ≡ min (s + k) (2 ^ 32 - 1)) (r q : Result (Unit {0}) Fault) (p : q ≡ passed_on r) where

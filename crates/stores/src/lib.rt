@@ -12,6 +12,6 @@ mod window;
 pub use bits::Bits;
 pub use card::Card;
 pub use memory::Memory;
-pub use refuse::{ABOVE_TOP, PAST_COUNT, WORN};
+pub use refuse::{ABOVE_TOP, PAST_COUNT, WORN, above_top, any_above, past_count, raised};
 pub use tile_store::TileStore;
 pub use window::Window;

@@ -14,7 +14,7 @@ pub const WORN: u8 = 11;
 pub const ABOVE_TOP: u8 = 12;
 
 // The refusal of a tile number at or past the count.
-pub(crate) fn past_count(k: u32) -> Fault
+pub fn past_count(k: u32) -> Fault
     ensures { result ≡ past k }
 {
     Fault {
@@ -36,7 +36,7 @@ pub(crate) fn worn_out(k: u32) -> Fault
 }
 
 // The refusal of bytes of which one is above the top.
-pub(crate) fn above_top(k: u32) -> Fault
+pub fn above_top(k: u32) -> Fault
     ensures { result ≡ above k }
 {
     Fault {
@@ -47,7 +47,7 @@ pub(crate) fn above_top(k: u32) -> Fault
 }
 
 // What a layer passes on of what the store below it answered: a fault goes one level up.
-pub(crate) fn raised(answer: Result<(), Fault>) -> Result<(), Fault>
+pub fn raised(answer: Result<(), Fault>) -> Result<(), Fault>
     ensures { result ≡ passed_on answer }
 {
     match answer {
@@ -61,7 +61,7 @@ pub(crate) fn raised(answer: Result<(), Fault>) -> Result<(), Fault>
 }
 
 // Whether a byte is above the top.
-pub(crate) fn any_above(bytes: &[u8; 64], top: u8) -> bool
+pub fn any_above(bytes: &[u8; 64], top: u8) -> bool
     ensures { result ≡ any_above top bytes.now }
 {
     for b in bytes {

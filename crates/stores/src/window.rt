@@ -1,6 +1,6 @@
 ghost use Rattle.std.specs.Prelude.{◌≡◌, ◌+◌};
-ghost use Rattle.stores.specs.Layers.{window};
-ghost use Rattle.stores.specs.Meaning.{ReadAs, WrittenAs, Done, store_after};
+ghost use Rattle.stores.specs.Layers.{window, accesses};
+ghost use Rattle.stores.specs.Meaning.{ReadAs, WrittenAs, Done, Reached, reading, writing, store_after};
 ghost use Rattle.stores.specs.Stacks.{WindowsStack};
 ghost use Rattle.stores.specs.Stores.{of_window};
 ghost use Rattle.stores.specs.Windows.{window_lawful};
@@ -53,6 +53,8 @@ impl<S: TileStore> TileStore for Window<S> {
 
     ghost intact = { λ w. S.TileStore.intact w.below };
 
+    ghost steps = { λ w a w'. Reached S.TileStore.steps w.below (accesses w.first w.most (S.TileStore.meaning w.below) a) w'.below };
+
     ghost lawful = { λ s ok. window_lawful (S.TileStore.meaning s.below) s.first s.most (S.TileStore.lawful s.below ok) };
 
     fn count(&self) -> u32 {
@@ -65,6 +67,7 @@ impl<S: TileStore> TileStore for Window<S> {
 
     fn read(&mut self, k: u32, out: &mut [u8; 64]) -> Result<(), Fault>
         ensures does { S.TileStore.intact self.old.below → Done (S.TileStore.intact self.new.below) (ReadAs (of_window S.TileStore.meaning self.old) k out.old result out.new (of_window S.TileStore.meaning self.new)) }
+        ensures steps { S.TileStore.intact self.old.below → Reached S.TileStore.steps self.old.below (accesses self.old.first self.old.most (S.TileStore.meaning self.old.below) (reading k)) self.new.below }
         ensures below { S.TileStore.intact self.old.below → S.TileStore.meaning self.new.below ≡ S.TileStore.meaning self.old.below }
         ensures first { self.new.first ≡ self.old.first }
         ensures most { self.new.most ≡ self.old.most }
@@ -78,6 +81,7 @@ impl<S: TileStore> TileStore for Window<S> {
 
     fn write(&mut self, k: u32, bytes: &[u8; 64]) -> Result<(), Fault>
         ensures does { S.TileStore.intact self.old.below → Done (S.TileStore.intact self.new.below) (WrittenAs (of_window S.TileStore.meaning self.old) k bytes.now result (of_window S.TileStore.meaning self.new)) }
+        ensures steps { S.TileStore.intact self.old.below → Reached S.TileStore.steps self.old.below (accesses self.old.first self.old.most (S.TileStore.meaning self.old.below) (writing k bytes.now)) self.new.below }
         ensures below { S.TileStore.intact self.old.below → S.TileStore.meaning self.new.below ≡ store_after result (S.TileStore.meaning self.old.below) (self.old.first + k) bytes.now }
         ensures first { self.new.first ≡ self.old.first }
         ensures most { self.new.most ≡ self.old.most }

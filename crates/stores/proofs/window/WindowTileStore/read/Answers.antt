@@ -1,5 +1,5 @@
 use Rattle.std.proofs.Common.{sym, refl, ◌∙◌}
-use Rattle.stores.specs.Windows.{left_by, reads_through}
+use Rattle.stores.specs.Windows.{left_by, reads_through, reads_step}
 use Rattle.stores.proofs.window.WindowTileStore.read.Goals as goal
 
 pub returns-in_err-raised : goal.returns-in_err-raised
@@ -7,8 +7,9 @@ returns-in_err-raised g c =
     let w = c.args.self.now in
     let q = left_by c.from_residual.result c.raised.result _ c.from_residual.ensures.1 c.in_err-raised.was ∙ c.raised.ensures in
     record {
-      does = reads_through _ _ w.first w.most c.args.k _ _ _ _ (g.met.S.TileStore.lawful w.below) c.count.ensures c.if-k-count.false c.saturating_add.ensures _ _ q _ _ c.read.ensures;
-      below = λ ok. (c.read.ensures ok).does.same;
+      does = reads_through _ _ w.first w.most c.args.k _ _ _ _ (g.met.S.TileStore.lawful w.below) c.count.ensures c.if-k-count.false c.saturating_add.ensures _ _ q _ _ c.read.ensures.does;
+      steps = reads_step _ w.first w.most c.args.k _ _ _ (g.met.S.TileStore.lawful w.below) c.count.ensures c.if-k-count.false c.saturating_add.ensures g.S.TileStore.steps _ _ c.read.ensures.steps;
+      below = λ ok. (c.read.ensures.does ok).does.same;
       first = refl;
       most = refl;
     }
@@ -18,8 +19,9 @@ returns g c =
     let w = c.args.self.now in
     let q = sym c.in_ok-raised.was ∙ c.raised.ensures in
     record {
-      does = reads_through _ _ w.first w.most c.args.k _ _ _ _ (g.met.S.TileStore.lawful w.below) c.count.ensures c.if-k-count.false c.saturating_add.ensures _ _ q _ _ c.read.ensures;
-      below = λ ok. (c.read.ensures ok).does.same;
+      does = reads_through _ _ w.first w.most c.args.k _ _ _ _ (g.met.S.TileStore.lawful w.below) c.count.ensures c.if-k-count.false c.saturating_add.ensures _ _ q _ _ c.read.ensures.does;
+      steps = reads_step _ w.first w.most c.args.k _ _ _ (g.met.S.TileStore.lawful w.below) c.count.ensures c.if-k-count.false c.saturating_add.ensures g.S.TileStore.steps _ _ c.read.ensures.steps;
+      below = λ ok. (c.read.ensures.does ok).does.same;
       first = refl;
       most = refl;
     }
