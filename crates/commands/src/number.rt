@@ -1,9 +1,9 @@
-ghost use Rattle.std.specs.Prelude.{◌≡◌, ◌+◌, ◌-◌, ◌*◌, ◌<◌, ◌&&◌, leb, if◌then◌else◌, Some, None, nat_le, nat_lt};
+ghost use Rattle.std.specs.Prelude.{◌≡◌, ◌+◌, ◌-◌, ◌*◌, ◌<◌, ◌&&◌, if◌then◌else◌, Some, None, nat_le, nat_lt};
 ghost use Rattle.commands.specs.Numerals.{numeral};
 
 // The number n with one digit more, if that fits 32 bits.
 fn with_digit(n: u32, digit: u8) -> Option<u32>
-    ensures { result ≡ (if leb 48 digit && nat_le digit 57 && nat_lt (10 * n + (digit - 48)) 4294967296 then Some (10 * n + (digit - 48)) else None) }
+    ensures { result ≡ (if nat_le 48 digit && nat_le digit 57 && nat_lt (10 * n + (digit - 48)) 4294967296 then Some (10 * n + (digit - 48)) else None) }
 {
     if digit < b'0' || digit > b'9' {
         return None;

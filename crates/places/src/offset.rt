@@ -31,6 +31,7 @@ impl Offset {
         ensures is { result ≡ self.index }
         ensures inside { result < 64 }
     {
-        self.index
+        let Offset { index } = self;
+        index
     }
 }

@@ -1,6 +1,6 @@
 ghost use Rattle.std.specs.Prelude.{◌≡◌, length};
 ghost use Rattle.rules.specs.Life.{neighbours, life_cell, life};
-ghost use Rattle.std.proofs.Common.{rules};
+ghost use Rattle.rules.specs.Lawful.{life_lawful};
 
 use super::codes::{count_code, window_fits};
 use super::numbers::RuleNumbers;
@@ -34,7 +34,7 @@ fn next_cell(window: &[u8]) -> u8
 impl Rule for Life {
     ghost meaning = { λ _. life };
 
-    ghost lawful = { Prim.search rules };
+    ghost lawful = { λ _. life_lawful };
 
     fn numbers(&self) -> RuleNumbers {
         RuleNumbers {

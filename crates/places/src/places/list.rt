@@ -33,7 +33,7 @@ impl Places {
     pub fn len(&self) -> usize
         ensures { result ≡ length (list_of self.now) }
     {
-        self.used
+        self.list().len()
     }
 
     /// The place of tile k, if it is there.

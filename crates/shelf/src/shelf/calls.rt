@@ -1,6 +1,6 @@
 ghost use Rattle.std.specs.Prelude.{◌≡◌, [], ◌∷◌};
 ghost use Rattle.stores.specs.Meaning.{Reached, reading};
-ghost use Rattle.shelves.specs.Shelves.{SettledAs, BelowRead, recounted, settled, writes_back};
+ghost use Rattle.shelves.specs.Shelves.{SettledAs, BelowRead, settled, writes_back};
 ghost use Rattle.shelves.specs.Runs.{ShelfLaw};
 ghost use Rattle.places.specs.Places.{list_of};
 ghost use Rattle.shelf.specs.Shelf.{shelved, Intact, Did, Does};
@@ -38,13 +38,6 @@ impl<S: TileStore> Shelf<S> {
         ensures { result ≡ (shelved S.TileStore.meaning self.now).fetches }
     {
         self.fetches
-    }
-
-    /// Begins the count of fetches anew.
-    pub fn recount(&mut self)
-        ensures { Does S.TileStore.meaning S.TileStore.intact S.TileStore.steps self.old self.new (λ _. []) (λ h h'. h' ≡ recounted h) }
-    {
-        self.fetches = 0;
     }
 
     /// Writes the changed tiles below, front first; then none is changed.

@@ -1,6 +1,6 @@
 ghost use Rattle.std.specs.Prelude.{◌≡◌, [], ◌∷◌, None};
 ghost use Rattle.stores.specs.Meaning.{Reached};
-ghost use Rattle.shelves.specs.Shelves.{TouchedAs, Good, place_of, written_back, touch_accesses, writes_back};
+ghost use Rattle.shelves.specs.Shelves.{TouchedAs, Good, place_of, recounted, written_back, touch_accesses, writes_back};
 ghost use Rattle.places.specs.Places.{list_of};
 ghost use Rattle.shelf.specs.Shelf.{Did, Does, above_refused};
 
@@ -19,6 +19,13 @@ pub(crate) fn write_back<S: TileStore>(below: &mut S, entry: &Entry)
 }
 
 impl<S: TileStore> Shelf<S> {
+    /// Begins the count of fetches anew.
+    pub fn recount(&mut self)
+        ensures { Does S.TileStore.meaning S.TileStore.intact S.TileStore.steps self.old self.new (λ _. []) (λ h h'. h' ≡ recounted h) }
+    {
+        self.fetches = 0;
+    }
+
     // Refuses a byte above the top, if tile k exists. If it does not, the touch refuses its number.
     pub(crate) fn check_top(&self, k: u32, above: bool) -> Result<(), Fault>
         ensures { S.TileStore.intact self.now.below → result ≡ above_refused (S.TileStore.meaning self.now.below) k above }
