@@ -1,11 +1,11 @@
 -- The store that lies in raw memory, for any layout.
-use Rattle.std.specs.Prelude.{◌≡◌, ℕ, ◌+◌, ◌*◌, ◌<◌, ◌≤◌, true, List, [], map, length, take, drop, set, None, Ok, Err, vec_items, Result, Vec, ◌≢◌, slice_index, slice_set, refl}
+use Rattle.std.specs.Prelude.{◌≡◌, ℕ, ◌+◌, ◌*◌, ◌<◌, ◌≤◌, true, false, List, [], map, length, take, drop, set, None, Ok, Err, vec_items, Result, Vec, ◌≢◌, slice_index, slice_index_or, slice_set, refl}
 use Rattle.std.proofs.Common.{sym, ap, ◌∙◌, inl, inr, arith}
 use borrow.Rule.Slice.PartMut.{put_mid}
 use Rattle.std.specs.Vec.{with_items}
 use Rattle.std.specs.List.{range_with_len}
 use Rattle.std.proofs.lemmas.List.FromFn.{length-map-range_with_len, get_or-map-range_with_len, fill_by_all}
-use Rattle.std.proofs.lemmas.List.{length-take, length-drop, length-set, get_or_past, get_or-set_same, get_or-set_other, with_items_is}
+use Rattle.std.proofs.lemmas.List.{length-take, length-drop, length-set, get_or_past, get_or_default, get_or-set_same, get_or-set_other, with_items_is}
 use Rattle.std.proofs.lemmas.Bool.{cases_lt, cases_eq, cases_order}
 use Rattle.refusals.specs.declared.fault.Fault.{Fault}
 use Rattle.stores.specs.Meaning.{Lawful, ReadAs, WrittenAs, count, tile_of, fault_of, past, above, any_above, unless_fault, buffer_after, store_after, written}
@@ -72,6 +72,20 @@ module _ (l : Layout) (memory : List ℕ) where
     buffer = o ∙ ap (λ t. buffer_after r t out) (sym (image_tile k h));
     same = refl;
   }
+
+  -- a refusal by the first byte of the tile
+  pub image-read-refused : (k : ℕ) (out : List ℕ) (r : Result (Unit {0}) Fault) (f : Fault) → k < tiles_in l memory → r ≡ Err f → r ≡ unless_fault (fault_in l memory k) → ReadAs (image l memory) k out r out (image l memory)
+  image-read-refused k out r f h e a = image-read k out out r h a (rw e)
+
+  pub image-write-refused : (k : ℕ) (codes : List ℕ) (r : Result (Unit {0}) Fault) (f : Fault) → k < tiles_in l memory → any_above l.top codes ≡ false → r ≡ Err f → r ≡ unless_fault (fault_in l memory k) → WrittenAs (image l memory) k codes r (image l memory)
+  image-write-refused k codes r f h low e a = record {
+    answer = a ∙ sym (write-within (image l memory) k codes (rw image-count h) low ∙ ap unless_fault (image_fault k h));
+    after = rw e;
+  }
+
+  -- the first byte of tile k, as the program reads it
+  pub first_byte : (k at first : ℕ) → 1 ≤ l.size → k < tiles_in l memory → at ≡ l.size * k → first ≡ slice_index_or memory at first → l.fault k first ≡ fault_in l memory k
+  first_byte k at first some h p e = ap (l.fault k) (e ∙ get_or_default memory at first 0 (omega (arith, tile_within l.size (length memory) k h)) ∙ ap (slice_index memory) p)
 
   module _ (sound : Sound l) (k : ℕ) (h : k < tiles_in l memory) (codes : List ℕ) (long : length codes ≡ 64) (low : (i : ℕ) → slice_index codes i ≤ l.top) where
     abbrev after : List ℕ

@@ -1,5 +1,5 @@
 -- How tiles lie in raw memory.
-use Rattle.std.specs.Prelude.{ℕ, ◌+◌, ◌*◌, cond, List, map, length, Some, None, Ok, Err, Option, Result, ◌==◌, slice_index}
+use Rattle.std.specs.Prelude.{◌≡◌, ℕ, ◌+◌, ◌≤◌, ◌*◌, cond, List, map, length, Some, None, Ok, Err, Option, Result, ◌==◌, slice_index}
 use Rattle.std.specs.List.{range_with_len}
 use Rattle.refusals.specs.declared.fault.Fault.{Fault}
 use Rattle.stores.specs.Meaning.{Store, worn}
@@ -22,6 +22,14 @@ pub record Layout : Type 0 where
   pub bytes : List ℕ → List ℕ
   -- the fault of tile k, by the first byte that it takes
   pub fault : ℕ → ℕ → Option Fault
+
+-- the numbers that a program has of a layout, which are the layout's: a tile is skip bytes and then those that hold its codes
+pub record Told (l : Layout) (size skip top : ℕ) : Type 0 where
+  pub size_told : size ≡ l.size
+  pub skip_told : skip ≡ l.skip
+  pub top_told : top ≡ l.top
+  pub rest : skip + l.width ≡ size
+  pub some : 1 ≤ l.size
 
 -- where the codes of tile k begin
 abbrev pub start : Layout → ℕ → ℕ

@@ -1,5 +1,6 @@
 -- What a store is: one meaning for every store, and what its four calls answer and leave.
-use Rattle.std.specs.Prelude.{◌≡◌, ℕ, ◌<◌, ◌≤◌, Bool, true, false, cond, List, [], ◌∷◌, length, Some, None, Ok, Err, Option, Result, nat_lt, slice_index, slice_index_or, slice_set}
+use Rattle.std.specs.Prelude.{◌≡◌, ℕ, ◌<◌, ◌≤◌, Bool, cond, List, [], ◌∷◌, length, Some, None, Ok, Err, Option, Result, nat_lt, slice_index, slice_index_or, slice_set}
+use Rattle.std.specs.List.{list_any}
 use Rattle.refusals.specs.declared.fault.Fault.{Fault}
 
 -- a store, to whoever calls it
@@ -55,8 +56,7 @@ unless_fault (Some f) = Err f
 
 -- some byte is above the top
 abbrev pub any_above : ℕ → List ℕ → Bool
-any_above top [] = false
-any_above top (b ∷ bs) = cond (nat_lt top b) true (any_above top bs)
+any_above top bytes = list_any (λ b. nat_lt top b) bytes
 
 -- what read of tile k answers: a number at or past the count is refused, then a tile that is not sound
 abbrev pub read : Store → ℕ → Result (Unit {0}) Fault

@@ -5,7 +5,7 @@ use Rattle.std.proofs.lemmas.List.{length-take, length-drop, length-map, get_or-
 use Rattle.std.proofs.lemmas.Bool.{cases_lt, lt-ltb}
 use Rattle.std.proofs.lemmas.Result.{err_from_is_err_and}
 use Rattle.refusals.specs.declared.fault.Fault.{Fault}
-use Rattle.stores.specs.Meaning.{Store, Lawful, Access, reading, writing, Reached, ReadAs, WrittenAs, Done, count, tile_of, fault_of, any_above, unless_fault, buffer_after, store_after}
+use Rattle.stores.specs.Meaning.{Store, Lawful, Access, reading, writing, Reached, ReadAs, WrittenAs, count, tile_of, fault_of, any_above, unless_fault, buffer_after, store_after}
 use Rattle.stores.specs.Layers.{raised, passed_on, window, accesses}
 use Rattle.stores.specs.Calls.{read-within, write-within}
 
@@ -94,35 +94,33 @@ module _ (b : Store) (s m : ℕ) where
     below-after bytes r q b' a p = a.after ∙ ap (λ j. store_after r b j bytes) at_below ∙ sym (passed_store r b (s + k) bytes) ∙ ap (λ z. store_after z b (s + k) bytes) (sym p)
 
 -- a refusal that leaves a call by a `?` is the one that came
+pub left_as : (q : Result (Unit {0}) Fault) (f : Fault) → IsErrAnd q (λ e. e ≡ f) → q ≡ Err f
+left_as q f e = let z = err_from_is_err_and q e in z.1 ∙ ap Err z.2
+
 pub left_by : (q r : Result (Unit {0}) Fault) (f : Fault) → IsErrAnd q (λ e. e ≡ f) → r ≡ Err f → q ≡ r
-left_by q r f e p = let z = err_from_is_err_and q e in z.1 ∙ ap Err z.2 ∙ sym p
+left_by q r f e p = left_as q f e ∙ sym p
 
--- the one access to the store below, as the program makes it: Kept is what that store keeps
-module _ (b : Store) (s m k n at : ℕ) (Kept : Type 0) (lawful : Kept → Lawful b) (counted : Kept → n ≡ count (window s m b)) (h : k < n) (sum : at ≡ min (s + k) (2 ^ 32 - 1)) where
-  pub reads_step : {S : Type 0} (steps : S → Access → S → Type 0) (x y : S) → (Kept → steps x (reading at) y) → Kept → Reached steps x (accesses s m b (reading k)) y
-  reads_step steps x y did ok =
-      let w : k < count (window s m b) = rw (counted ok) at h in
-      rw (lt-ltb k (count (window s m b)) w) (y, subst (λ n. steps x (reading n) y) (at_below b s m (lawful ok) k w at sum) (did ok), refl)
+-- the calls of a window over the lawful store b, as the program makes them
+module _ (b : Store) (s m k n at : ℕ) (l : Lawful b) (counted : n ≡ count (window s m b)) (h : k < n) (sum : at ≡ min (s + k) (2 ^ 32 - 1)) where
+  abbrev held : k < count (window s m b)
+  held = rw counted at h
 
-  pub writes_step : {S : Type 0} (steps : S → Access → S → Type 0) (x y : S) (bytes : List ℕ) (top : ℕ) → (Kept → top ≡ b.top) → any_above top bytes ≡ false → (Kept → steps x (writing at bytes) y) → Kept → Reached steps x (accesses s m b (writing k bytes)) y
-  writes_step steps x y bytes top topped low did ok =
-      let w : k < count (window s m b) = rw (counted ok) at h in
-      rw (lt-ltb k (count (window s m b)) w, rw (topped ok) at low) (y, subst (λ n. steps x (writing n bytes) y) (at_below b s m (lawful ok) k w at sum) (did ok), refl)
+  -- the one access to the store below that each of them makes
+  pub reads_step : {S : Type 0} (steps : S → Access → S → Type 0) (x y : S) → steps x (reading at) y → Reached steps x (accesses s m b (reading k)) y
+  reads_step steps x y did = rw (lt-ltb k (count (window s m b)) held) (y, subst (λ n. steps x (reading n) y) (at_below b s m l k held at sum) did, refl)
 
--- the calls of a window as the program makes them: Kept is what the store below keeps before the call, and Kept' after it
-module _ (b b' : Store) (s m k n at : ℕ) (Kept Kept' : Type 0) (lawful : Kept → Lawful b) (counted : Kept → n ≡ count (window s m b)) (h : k < n) (sum : at ≡ min (s + k) (2 ^ 32 - 1)) (r q : Result (Unit {0}) Fault) (p : q ≡ passed_on r) where
-  pub reads_through : (out out' : List ℕ) → (Kept → Done Kept' (ReadAs b at out r out' b')) → Kept → Done Kept' (ReadAs (window s m b) k out q out' (window s m b'))
-  reads_through out out' did ok = record {
-    stays = (did ok).stays;
-    does = window-read b s m (lawful ok) k (rw (counted ok) at h) at sum out out' r q b' (did ok).does p;
-  }
+  pub writes_step : {S : Type 0} (steps : S → Access → S → Type 0) (x y : S) (bytes : List ℕ) (top : ℕ) → top ≡ b.top → any_above top bytes ≡ false → steps x (writing at bytes) y → Reached steps x (accesses s m b (writing k bytes)) y
+  writes_step steps x y bytes top topped low did =
+      rw (lt-ltb k (count (window s m b)) held, rw topped at low) (y, subst (λ n. steps x (writing n bytes) y) (at_below b s m l k held at sum) did, refl)
 
-  module _ (bytes : List ℕ) (did : Kept → Done Kept' (WrittenAs b at bytes r b')) where
-    pub writes_through : (top : ℕ) → (Kept → top ≡ b.top) → any_above top bytes ≡ false → Kept → Done Kept' (WrittenAs (window s m b) k bytes q (window s m b'))
-    writes_through top topped low ok = record {
-      stays = (did ok).stays;
-      does = window-write b s m (lawful ok) k (rw (counted ok) at h) at sum bytes (rw (topped ok) at low) r q b' (did ok).does p;
-    }
+  -- and what they answer and leave
+  module _ (b' : Store) (r q : Result (Unit {0}) Fault) (p : q ≡ passed_on r) where
+    pub reads_through : (out out' : List ℕ) → ReadAs b at out r out' b' → ReadAs (window s m b) k out q out' (window s m b')
+    reads_through out out' did = window-read b s m l k held at sum out out' r q b' did p
 
-    pub writes_below : Kept → b' ≡ store_after q b (s + k) bytes
-    writes_below ok = below-after b s m (lawful ok) k (rw (counted ok) at h) at sum bytes r q b' (did ok).does p
+    module _ (bytes : List ℕ) (did : WrittenAs b at bytes r b') where
+      pub writes_through : (top : ℕ) → top ≡ b.top → any_above top bytes ≡ false → WrittenAs (window s m b) k bytes q (window s m b')
+      writes_through top topped low = window-write b s m l k held at sum bytes (rw topped at low) r q b' did p
+
+      pub writes_below : b' ≡ store_after q b (s + k) bytes
+      writes_below = below-after b s m l k held at sum bytes r q b' did p

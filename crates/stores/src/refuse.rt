@@ -50,24 +50,16 @@ pub fn above_top(k: u32) -> Fault
 pub fn raised(answer: Result<(), Fault>) -> Result<(), Fault>
     ensures { result ≡ passed_on answer }
 {
-    match answer {
-        Ok(()) => Ok(()),
-        Err(fault) => Err(Fault {
-            cause: fault.cause,
-            tile: fault.tile,
-            level: fault.level.saturating_add(1),
-        }),
-    }
+    answer.map_err(|fault| Fault {
+        cause: fault.cause,
+        tile: fault.tile,
+        level: fault.level.saturating_add(1),
+    })
 }
 
 // Whether a byte is above the top.
 pub fn any_above(bytes: &[u8; 64], top: u8) -> bool
     ensures { result ≡ any_above top bytes.now }
 {
-    for b in bytes {
-        if *b > top {
-            return true;
-        }
-    }
-    false
+    bytes.iter().any(|b| *b > top)
 }

@@ -1,6 +1,6 @@
 ghost use Rattle.std.specs.Prelude.{◌≡◌, ◌+◌};
 ghost use Rattle.stores.specs.Layers.{window, accesses};
-ghost use Rattle.stores.specs.Meaning.{ReadAs, WrittenAs, Done, Reached, reading, writing, store_after};
+ghost use Rattle.stores.specs.Meaning.{ReadAs, WrittenAs, Reached, reading, writing, store_after};
 ghost use Rattle.stores.specs.Stacks.{WindowsStack};
 ghost use Rattle.stores.specs.Stores.{of_window};
 ghost use Rattle.stores.specs.Windows.{window_lawful};
@@ -25,8 +25,7 @@ impl<S: TileStore> Window<S> {
     pub fn new(below: S, first: u32, tiles: u32) -> Window<S>
         ensures stacks { WindowsStack }
         ensures over { result.below ≡ below }
-        ensures intact { S.TileStore.intact below → S.TileStore.intact result.below }
-        ensures means { of_window S.TileStore.meaning result ≡ window first tiles (S.TileStore.meaning below) }
+        ensures means { of_window S.meaning result ≡ window first tiles (S.meaning below) }
     {
         Window {
             below,
@@ -49,13 +48,11 @@ impl<S: TileStore> Window<S> {
 }
 
 impl<S: TileStore> TileStore for Window<S> {
-    ghost meaning = { λ w. of_window S.TileStore.meaning w };
+    ghost meaning = { λ w. of_window S.meaning w };
 
-    ghost intact = { λ w. S.TileStore.intact w.below };
+    ghost steps = { λ w a w'. Reached S.steps w.below (accesses w.first w.most (S.meaning w.below) a) w'.below };
 
-    ghost steps = { λ w a w'. Reached S.TileStore.steps w.below (accesses w.first w.most (S.TileStore.meaning w.below) a) w'.below };
-
-    ghost lawful = { λ s ok. window_lawful (S.TileStore.meaning s.below) s.first s.most (S.TileStore.lawful s.below ok) };
+    ghost lawful = { λ s. window_lawful (S.meaning s.below) s.first s.most (S.lawful s.below) };
 
     fn count(&self) -> u32 {
         self.below.count().saturating_sub(self.first).min(self.most)
@@ -66,9 +63,9 @@ impl<S: TileStore> TileStore for Window<S> {
     }
 
     fn read(&mut self, k: u32, out: &mut [u8; 64]) -> Result<(), Fault>
-        ensures does { S.TileStore.intact self.old.below → Done (S.TileStore.intact self.new.below) (ReadAs (of_window S.TileStore.meaning self.old) k out.old result out.new (of_window S.TileStore.meaning self.new)) }
-        ensures steps { S.TileStore.intact self.old.below → Reached S.TileStore.steps self.old.below (accesses self.old.first self.old.most (S.TileStore.meaning self.old.below) (reading k)) self.new.below }
-        ensures below { S.TileStore.intact self.old.below → S.TileStore.meaning self.new.below ≡ S.TileStore.meaning self.old.below }
+        ensures does { ReadAs (of_window S.meaning self.old) k out.old result out.new (of_window S.meaning self.new) }
+        ensures steps { Reached S.steps self.old.below (accesses self.old.first self.old.most (S.meaning self.old.below) (reading k)) self.new.below }
+        ensures below { S.meaning self.new.below ≡ S.meaning self.old.below }
         ensures first { self.new.first ≡ self.old.first }
         ensures most { self.new.most ≡ self.old.most }
     {
@@ -80,9 +77,9 @@ impl<S: TileStore> TileStore for Window<S> {
     }
 
     fn write(&mut self, k: u32, bytes: &[u8; 64]) -> Result<(), Fault>
-        ensures does { S.TileStore.intact self.old.below → Done (S.TileStore.intact self.new.below) (WrittenAs (of_window S.TileStore.meaning self.old) k bytes.now result (of_window S.TileStore.meaning self.new)) }
-        ensures steps { S.TileStore.intact self.old.below → Reached S.TileStore.steps self.old.below (accesses self.old.first self.old.most (S.TileStore.meaning self.old.below) (writing k bytes.now)) self.new.below }
-        ensures below { S.TileStore.intact self.old.below → S.TileStore.meaning self.new.below ≡ store_after result (S.TileStore.meaning self.old.below) (self.old.first + k) bytes.now }
+        ensures does { WrittenAs (of_window S.meaning self.old) k bytes.now result (of_window S.meaning self.new) }
+        ensures steps { Reached S.steps self.old.below (accesses self.old.first self.old.most (S.meaning self.old.below) (writing k bytes.now)) self.new.below }
+        ensures below { S.meaning self.new.below ≡ store_after result (S.meaning self.old.below) (self.old.first + k) bytes.now }
         ensures first { self.new.first ≡ self.old.first }
         ensures most { self.new.most ≡ self.old.most }
     {

@@ -3,4 +3,4 @@ use Rattle.stores.proofs.Stacked.{windows_stack}
 use Rattle.stores.proofs.window.Window.new.Goals as goal
 
 pub returns : goal.returns
-returns g c = record { stacks = windows_stack; over = refl; intact = λ ok. ok; means = refl }
+returns g c = record { stacks = windows_stack; over = refl; means = refl }

@@ -3,4 +3,4 @@ use Rattle.stores.specs.Windows.{window-count}
 use Rattle.stores.proofs.window.WindowTileStore.count.Goals as goal
 
 pub returns : goal.returns
-returns g c ok = omega (arith, window-count (g.S.TileStore.meaning c.args.self.now.below) c.args.self.now.first c.args.self.now.most, c.count.ensures ok)
+returns g c = omega (arith, window-count (g.S.TileStore.meaning c.args.self.now.below) c.args.self.now.first c.args.self.now.most, c.count.ensures)
