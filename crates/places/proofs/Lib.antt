@@ -1,1 +1,2 @@
-mod Held
+pub mod Finding
+pub mod Clearing

@@ -1,6 +1,6 @@
 -- A shelf: a list of tiles by last use, front first, over the store below; what its calls answer and leave.
 use Rattle.std.specs.Prelude.{◌≡◌, ℕ, zero, suc, ◌+◌, ◌<◌, ◌≤◌, min, true, false, cond, List, [], ◌∷◌, ◌++◌, map, length, get_or, take, drop, Some, None, Ok, Err, Option, Result, ◌==◌, nat_lt, slice_index, slice_index_or, slice_set}
-use Rattle.std.specs.List.{range_with_len}
+use Rattle.std.specs.List.{range_with_len, slice_get}
 use Rattle.refusals.specs.declared.fault.Fault.{Fault}
 use Rattle.stores.specs.Meaning.{Store, ReadAs, Access, reading, writing, count, tile_of, fault_of, written, any_above, read, write, buffer_after, store_after}
 use Rattle.stores.specs.Layers.{raised}
@@ -25,9 +25,7 @@ clean k bytes = record { tile = k; changed = false; bytes = bytes }
 
 -- the entry at place p, if the list has that place
 abbrev pub entry_at : List Entry → ℕ → Option Entry
-entry_at [] p = None
-entry_at (e ∷ es) zero = Some e
-entry_at (e ∷ es) (suc p) = entry_at es p
+entry_at es p = slice_get es p
 
 abbrev pub later : Option ℕ → Option ℕ
 later None = None

@@ -1,25 +1,29 @@
-use Rattle.std.proofs.Common.{◌≡◌, Some, ap, ◌∙◌, arith}
-use Rattle.places.specs.Places.{list_of}
-use Rattle.places.proofs.Held.{held_at, held_past, turned, turned_last, admitted_full, admitted_free}
+use Rattle.std.proofs.Common.{◌≡◌, ◌-◌, ◌∷◌, length, take, sym, ap, ◌∙◌, arith}
+use Rattle.std.specs.List.{slice_get}
+use Rattle.std.proofs.lemmas.Bool.{eqb-true, eqb-false}
+use Rattle.std.proofs.lemmas.List.{take_all}
+use Rattle.shelves.proofs.Lists.{entry_past}
 use Rattle.places.proofs.places.Places.admit.Goals as goal
+use Rattle.places.proofs.places.Places.admit.Goals.{then-is_full, else-is_full}
 
-pub returns-then-self-lt64 : goal.returns-then-self-lt64
-unfolding list_of
-returns-then-self-lt64 c =
-    let s = c.args.self.now in
-    let t = turned s.entries c.rotate_right.new.self c.args.entry s.full c.rotate_right.ensures.after in
-    record {
-      leaves = admitted_free s.entries _ s.used c.args.entry c.if-self-lt64.true s.full t;
-      last = held_past s.entries s.used (omega (arith, s.few, s.full)) 63 (omega (arith, c.if-self-lt64.true));
-    }
+pub returns-clause-leaves : goal.returns-clause-leaves
+returns-clause-leaves c =
+    let es = c.args.self.now.entries.items in
+    c.insert.ensures.items ∙ ap (λ xs. c.args.entry ∷ xs) (elim c.if-is_full.branch [
+      | then-is_full w ↦ let full : length es ≡ 64 = eqb-true (length es) 64 (sym w.if-is_full.ensures.value) in
+          let n : length es - 1 ≡ 63 = omega arith in
+          ap (λ s. s.entries.items) w.self-is ∙ w.pop-last.ensures.rest ∙ ap (λ m. take m es) n
+      | else-is_full w ↦ let free = eqb-false (length es) 64 (sym w.if-is_full.ensures.value) in
+          ap (λ s. s.entries.items) w.self-is ∙ sym (take_all 63 es (omega (arith, c.is_full.ensures.fits)))
+    ])
 
-pub returns-else-self-lt64 : goal.returns-else-self-lt64
-unfolding list_of
-returns-else-self-lt64 c =
-    let s = c.args.self.now in
-    let full : s.used ≡ 64 = omega (arith, s.few, c.if-self-lt64.false) in
-    let t = turned s.entries c.rotate_right.new.self c.args.entry s.full c.rotate_right.ensures.after in
-    record {
-      leaves = admitted_full s.entries _ s.used c.args.entry full s.full t;
-      last = ap Some (turned_last s.entries c.rotate_right.new.self s.full c.rotate_right.ensures.after) ∙ held_at s.entries s.used (omega (arith, s.few, s.full)) 63 (omega arith);
-    }
+pub returns-clause-last : goal.returns-clause-last
+returns-clause-last c =
+    let es = c.args.self.now.entries.items in
+    elim c.if-is_full.branch [
+      | then-is_full w ↦ let full : length es ≡ 64 = eqb-true (length es) 64 (sym w.if-is_full.ensures.value) in
+          let n : length es - 1 ≡ 63 = omega arith in
+          w.last-is ∙ w.pop-last.ensures.value ∙ ap (slice_get es) n
+      | else-is_full w ↦ let free = eqb-false (length es) 64 (sym w.if-is_full.ensures.value) in
+          w.last-is ∙ sym (entry_past es 63 (omega (arith, c.is_full.ensures.fits)))
+    ]
