@@ -1,18 +1,14 @@
--- The stores of this crate are lawful, and what a shelf over one keeps.
+-- The stores of this crate are lawful.
 use Rattle.std.specs.Prelude.{vec_items}
 use Rattle.stores.specs.Meaning.{Lawful}
 use Rattle.stores.specs.Layouts.{plain_layout, card_layout, bits_layout}
 use Rattle.stores.specs.Images.{image_lawful}
 use Rattle.stores.specs.LayoutsLemmas.{plain_sound, card_sound, bits_sound}
 use Rattle.stores.specs.Windows.{window_lawful}
-use Rattle.shelves.proofs.Props.{kept_out}
-use Rattle.places.specs.Places.{list_of}
-use Rattle.shelf.specs.Shelf.{Intact}
 use Rattle.piles.specs.declared.choice.AnyStore.{AnyStore}
 use Rattle.piles.specs.declared.choice.AnyStore.TheVariants.{Memory, Card, Bits}
 use Rattle.piles.specs.declared.choice.Pile.{Pile}
 use Rattle.piles.specs.declared.choice.Pile.TheVariants.{Plain, Windowed}
-use Rattle.piles.specs.declared.shelved.ShelvedPile.{ShelvedPile}
 use Rattle.piles.specs.Piles.{any_store_of, pile_of}
 
 pub any_lawful : (s : AnyStore) → Lawful (any_store_of s)
@@ -23,7 +19,3 @@ any_lawful (Bits s) = image_lawful bits_layout (vec_items s.memory) bits_sound s
 pub pile_lawful : (p : Pile) → Lawful (pile_of p)
 pile_lawful (Plain s) = any_lawful s
 pile_lawful (Windowed w) = window_lawful (any_store_of w.below) w.first w.most (any_lawful w.below)
-
--- the shelf is intact, by its type
-pub intact : (p : ShelvedPile) → Intact pile_of (λ _. Unit {0}) p.shelf
-intact p = (tt, kept_out (pile_of p.shelf.below) (list_of p.shelf.places) p.kept)

@@ -1,3 +1,2 @@
 pub mod Piles
-pub mod Shelved
 pub mod Lawful

@@ -1,4 +1,3 @@
-ghost use Rattle.std.specs.Prelude.{◌≡◌};
 ghost use Rattle.piles.specs.Piles.{any_store_of};
 ghost use Rattle.piles.specs.Lawful.{any_lawful};
 
@@ -9,9 +8,7 @@ use stores::TileStore;
 impl TileStore for AnyStore {
     ghost meaning = { any_store_of };
 
-    ghost intact = { λ _. Unit {0} };
-
-    ghost lawful = { λ s _. any_lawful s };
+    ghost lawful = { any_lawful };
 
     fn count(&self) -> u32 {
         match self {

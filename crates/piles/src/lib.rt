@@ -4,7 +4,5 @@
 mod any;
 mod choice;
 mod pile;
-mod shelved;
 
-pub use choice::{AnyStore, Pile};
-pub use shelved::ShelvedPile;
+pub use choice::{AnyStore, Pile, ShelvedPile};

@@ -1,4 +1,3 @@
-ghost use Rattle.std.specs.Prelude.{◌≡◌};
 ghost use Rattle.piles.specs.Piles.{pile_of};
 ghost use Rattle.piles.specs.Lawful.{pile_lawful};
 
@@ -9,9 +8,7 @@ use stores::TileStore;
 impl TileStore for Pile {
     ghost meaning = { pile_of };
 
-    ghost intact = { λ _. Unit {0} };
-
-    ghost lawful = { λ p _. pile_lawful p };
+    ghost lawful = { pile_lawful };
 
     fn count(&self) -> u32 {
         match self {

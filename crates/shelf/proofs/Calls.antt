@@ -1,7 +1,7 @@
 -- What the calls of the shelf do, from what its places and the store below do.
 use Rattle.std.proofs.Common.{◌≡◌, ℕ, ◌+◌, ◌<◌, ◌≤◌, Bool, true, false, ltb, ◌⊎◌, List, [], ◌∷◌, ◌++◌, length, get_or, take, drop, set, Some, None, Ok, Err, Result, sym, refl, ap, ◌∙◌, subst, inl, inr, arith}
 use Rattle.std.proofs.lemmas.Bool.{cases_Bool, cases_lt, eqb-true, true≢false, cond-true, cond-false, lt-ltb, le-ltb, ltb-true}
-use Rattle.std.proofs.lemmas.List.{take_more, take_all}
+use Rattle.std.proofs.lemmas.List.{take_more}
 use Rattle.refusals.specs.declared.fault.Fault.{Fault}
 use Rattle.stores.specs.Meaning.{Store, Lawful, Access, reading, writing, Reached, count, tile_of, read, above, any_above}
 use Rattle.shelves.specs.declared.entry.Entry.{Entry}
@@ -32,7 +32,7 @@ module _ {S : Type 0} (steps : S → Access → S → Type 0) where
   reached_then x y z [] more e r = subst (λ (w : S). Reached steps w more z) e r
   reached_then x y z (a ∷ first) more e r = (e.0, e.1, reached_then e.0 y z first more e.2 r)
 
-  reached_by : (x y : S) (is more : List Access) → is ≡ more → Reached steps x is y → Reached steps x more y
+  pub reached_by : (x y : S) (is more : List Access) → is ≡ more → Reached steps x is y → Reached steps x more y
   reached_by x y is more e r = subst (λ (w : List Access). Reached steps x w y) e r
 
   -- of a touch of a tile on the shelf, or past the count
@@ -62,36 +62,41 @@ writes_append (x ∷ xs) ys = elim (cases_Bool x.changed) [
   | inr t ↦ rw t (writes_append xs ys)
 ]
 
--- of a settle, one tile further
-pub settle_reaches : {S : Type 0} (steps : S → Access → S → Type 0) (x y z : S) (es : List Entry) (p : ℕ) (e : Entry) → p < length es → e ≡ get_or es p blank → Reached steps x (writes_back (take p es)) y → Reached steps y (writes_back (e ∷ [])) z → Reached steps x (writes_back (take (p + 1) es)) z
-settle_reaches steps x y z es p e lt q r t =
-    reached_by steps x z (writes_back (take p es) ++ writes_back (e ∷ [])) (writes_back (take (p + 1) es))
-    (writes_append (take p es) (e ∷ []) ∙ ap (λ (w : Entry). writes_back (take p es ++ w ∷ [])) q ∙ ap writes_back (sym (take_more es p blank lt)))
-    (reached_then steps x y z (writes_back (take p es)) (writes_back (e ∷ [])) r t)
-
-pub settled_reaches : {S : Type 0} (steps : S → Access → S → Type 0) (x z : S) (es : List Entry) (p : ℕ) → length es ≤ p → Reached steps x (writes_back (take p es)) z → Reached steps x (writes_back es) z
-settled_reaches steps x z es p h r = reached_by steps x z (writes_back (take p es)) (writes_back es) (ap writes_back (take_all p es h)) r
+-- of entries written back, one further
+pub back_reaches : {S : Type 0} (steps : S → Access → S → Type 0) (x y z : S) (es : List Entry) (p : ℕ) → p < length es → Reached steps x (writes_back (take p es)) y → Reached steps y (writes_back (get_or es p blank ∷ [])) z → Reached steps x (writes_back (take (p + 1) es)) z
+back_reaches steps x y z es p lt r t =
+    reached_by steps x z (writes_back (take p es) ++ writes_back (get_or es p blank ∷ [])) (writes_back (take (p + 1) es))
+    (writes_append (take p es) (get_or es p blank ∷ []) ∙ ap writes_back (sym (take_more es p blank lt)))
+    (reached_then steps x y z (writes_back (take p es)) (writes_back (get_or es p blank ∷ [])) r t)
 
 -- an answer and a shelf after a touch, if they are those of the definition
-pub touch_done : {I R : Type 0} (h : Shelved) (k : ℕ) → Lawful h.below → Kept h.below h.list → I → R → (r : Result (Unit {0}) Fault) (h' : Shelved) → r ≡ read (store_of h) k → h' ≡ touched_if r h k → Did (I × Kept h'.below h'.list) R (TouchedAs h k r h')
-touch_done h k l kept i reaches r h' answer after = record { stays = (i, touched_kept h k l kept r h' answer after); reaches = reaches; does = touched_as h k l kept r h' answer after }
+pub touch_done : {R : Type 0} (h : Shelved) (k : ℕ) → Lawful h.below → Kept h.below h.list → R → (r : Result (Unit {0}) Fault) (h' : Shelved) → r ≡ read (store_of h) k → h' ≡ touched_if r h k → Did R (TouchedAs h k r h')
+touch_done h k l kept reaches r h' answer after = record { reaches = reaches; does = touched_as h k l kept r h' answer after }
 
-module _ {S : Type 0} (steps : S → Access → S → Type 0) (x : S) {I : Type 0} (es : List Entry) (b : Store) (n k : ℕ) (l : Lawful b) (kept : Kept b es) (i : I) where
+module _ (es : List Entry) (b : Store) (n k : ℕ) (l : Lawful b) (kept : Kept b es) where
   abbrev before : Shelved
   before = record { list = es; below = b; fetches = n }
 
-  hit_done : (p : ℕ) (es' : List Entry) → place_of es k ≡ Some p → es' ≡ to_front es p → Did (I × Kept b es') (Reached steps x (touch_accesses before k) x) (TouchedAs before k (Ok tt) (record { list = es'; below = b; fetches = n }))
-  hit_done p es' e q = touch_done before k l kept i (hit_reaches steps x before k p e) (Ok tt) (record { list = es'; below = b; fetches = n }) (sym (hit_read es b k l p kept e)) (touched_hit es es' b n k p e q)
-
-  -- a tile in front stays there
-  pub front_done : true ≡ front_is es k → Did (I × Kept b es) (Reached steps x (touch_accesses before k) x) (TouchedAs before k (Ok tt) before)
-  front_done e =
-      let f = front_place es k e in
-      hit_done 0 es (place_front es k f.0 f.1) (sym (front_again es f.0))
-
   -- a tile elsewhere on the shelf moves to the front
-  pub moved_done : (p : ℕ) (es' : List Entry) → place_of es k ≡ Some p → es' ≡ moved_to_front es p → Did (I × Kept b es') (Reached steps x (touch_accesses before k) x) (TouchedAs before k (Ok tt) (record { list = es'; below = b; fetches = n }))
-  moved_done p es' e q = hit_done p es' e (q ∙ cond-true _ _ _ (lt-ltb p (length es) (placed_some es k p e).0))
+  module _ (p : ℕ) (es' : List Entry) (e : place_of es k ≡ Some p) (q : es' ≡ moved_to_front es p) where
+    front : es' ≡ to_front es p
+    front = q ∙ cond-true _ _ _ (lt-ltb p (length es) (placed_some es k p e).0)
+
+    pub moved_kept : Kept b es'
+    moved_kept = touched_kept before k l kept (Ok tt) (record { list = es'; below = b; fetches = n }) (sym (hit_read es b k l p kept e)) (touched_hit es es' b n k p e front)
+
+  module _ {S : Type 0} (steps : S → Access → S → Type 0) (x : S) where
+    hit_done : (p : ℕ) (es' : List Entry) → place_of es k ≡ Some p → es' ≡ to_front es p → Did (Reached steps x (touch_accesses before k) x) (TouchedAs before k (Ok tt) (record { list = es'; below = b; fetches = n }))
+    hit_done p es' e q = touch_done before k l kept (hit_reaches steps x before k p e) (Ok tt) (record { list = es'; below = b; fetches = n }) (sym (hit_read es b k l p kept e)) (touched_hit es es' b n k p e q)
+
+    -- a tile in front stays there
+    pub front_done : true ≡ front_is es k → Did (Reached steps x (touch_accesses before k) x) (TouchedAs before k (Ok tt) before)
+    front_done e =
+        let f = front_place es k e in
+        hit_done 0 es (place_front es k f.0 f.1) (sym (front_again es f.0))
+
+    pub moved_done : (p : ℕ) (es' : List Entry) → place_of es k ≡ Some p → es' ≡ moved_to_front es p → Did (Reached steps x (touch_accesses before k) x) (TouchedAs before k (Ok tt) (record { list = es'; below = b; fetches = n }))
+    moved_done p es' e q = hit_done p es' e (front p es' e q)
 
 -- the tile that leaves, in the store b1 that the read has left
 module _ (es : List Entry) (b b1 : Store) (kept : Kept b es) (same : b1 ≡ b) where

@@ -1,4 +1,9 @@
+ghost use Rattle.shelves.specs.Shelves.{Kept};
+ghost use Rattle.shelves.proofs.Props.{kept_prop};
+ghost use Rattle.places.specs.Places.{list_of};
+
 use places::Places;
+use stores::TileStore;
 
 mod bytes;
 mod calls;
@@ -11,8 +16,9 @@ mod touch;
 /// is read below, which is a fetch, and put in front. If 64 were there, the last one leaves and, if it
 /// was changed, is written below.
 #[derive(Drop)]
-pub struct Shelf<S> {
+pub struct Shelf<S: TileStore> {
     below: S,
     places: Places,
     fetches: u64,
+    ghost kept: { Kept (S.meaning below) (list_of places) } by { kept_prop (S.meaning below) (list_of places) },
 }

@@ -1,39 +1,17 @@
-ghost use Rattle.std.specs.Prelude.{◌≡◌, Ok, Err};
-
 use places::Offset;
 use refusals::Fault;
 use shelf::Shelf;
 use std::test::Fail;
 use stores::{Bits, Card, Memory, TileStore, Window};
 
-// Cause, tile and level of a refusal, and zeros of what was accepted.
-fn numbers(answer: Result<(), Fault>) -> (u8, u32, u8)
-    ensures { elim answer [ Ok u ↦ result ≡ (0, 0, 0) | Err f ↦ result ≡ (f.cause, f.tile, f.level) ] }
-{
-    match answer {
-        Ok(()) => (0, 0, 0),
-        Err(fault) => (fault.cause, fault.tile, fault.level),
-    }
-}
-
-// Cause, tile and level of a refused byte call, and zeros of one that was accepted.
-fn byte_numbers(answer: Result<u8, Fault>) -> (u8, u32, u8)
-    ensures { elim answer [ Ok u ↦ result ≡ (0, 0, 0) | Err f ↦ result ≡ (f.cause, f.tile, f.level) ] }
-{
-    match answer {
-        Ok(_) => (0, 0, 0),
-        Err(fault) => (fault.cause, fault.tile, fault.level),
-    }
-}
-
 #[test]
 fn the_last_used_comes_first(rt: HostRuntime) -> Result<(), Fail> {
     let mut shelf = Shelf::new(Memory::new(vec![in rt.alloc(); 0u8; 640]?));
-    assert_eq!(rt; byte_numbers(shelf.get(3, Offset::of(0))), (0, 0, 0));
-    assert_eq!(rt; byte_numbers(shelf.get(7, Offset::of(0))), (0, 0, 0));
-    assert_eq!(rt; numbers(shelf.put(3, Offset::of(9), 5)), (0, 0, 0));
-    assert_eq!(rt; byte_numbers(shelf.get(1, Offset::of(0))), (0, 0, 0));
-    assert_eq!(rt; byte_numbers(shelf.get(7, Offset::of(0))), (0, 0, 0));
+    assert_eq!(rt; shelf.get(3, Offset::of(0)), Ok(0));
+    assert_eq!(rt; shelf.get(7, Offset::of(0)), Ok(0));
+    assert_eq!(rt; shelf.put(3, Offset::of(9), 5), Ok(()));
+    assert_eq!(rt; shelf.get(1, Offset::of(0)), Ok(0));
+    assert_eq!(rt; shelf.get(7, Offset::of(0)), Ok(0));
     let list = shelf.list();
     assert!(rt; list.len() == 3);
     assert_eq!(rt; (list[0].tile, list[1].tile, list[2].tile), (7, 1, 3));
@@ -49,15 +27,15 @@ fn the_last_used_comes_first(rt: HostRuntime) -> Result<(), Fail> {
 #[test]
 fn the_65th_throws_the_last_off(rt: HostRuntime) -> Result<(), Fail> {
     let mut shelf = Shelf::new(Memory::new(vec![in rt.alloc(); 0u8; 4224]?));
-    assert_eq!(rt; numbers(shelf.put(0, Offset::of(63), 9)), (0, 0, 0));
+    assert_eq!(rt; shelf.put(0, Offset::of(63), 9), Ok(()));
     for k in 1..64 {
-        assert_eq!(rt; byte_numbers(shelf.get(k, Offset::of(0))), (0, 0, 0));
+        assert_eq!(rt; shelf.get(k, Offset::of(0)), Ok(0));
     }
     let mut out = [0u8; 64];
-    assert_eq!(rt; numbers(shelf.read_below(0, &mut out)), (0, 0, 0));
+    assert_eq!(rt; shelf.read_below(0, &mut out), Ok(()));
     assert_eq!(rt; out[63], 0);
-    assert_eq!(rt; byte_numbers(shelf.get(64, Offset::of(0))), (0, 0, 0));
-    assert_eq!(rt; numbers(shelf.read_below(0, &mut out)), (0, 0, 0));
+    assert_eq!(rt; shelf.get(64, Offset::of(0)), Ok(0));
+    assert_eq!(rt; shelf.read_below(0, &mut out), Ok(()));
     assert_eq!(rt; out[63], 9);
     let list = shelf.list();
     assert!(rt; list.len() == 64);
@@ -71,12 +49,40 @@ fn a_refused_read_moves_nothing(rt: HostRuntime) -> Result<(), Fail> {
     let mut memory = vec![in rt.alloc(); 0u8; 260]?;
     memory[195] = 1;
     let mut shelf = Shelf::new(Card::new(memory));
-    assert_eq!(rt; byte_numbers(shelf.get(1, Offset::of(0))), (0, 0, 0));
+    assert_eq!(rt; shelf.get(1, Offset::of(0)), Ok(0));
     let mut out = [7u8; 64];
-    assert_eq!(rt; numbers(shelf.read(3, &mut out)), (11, 3, 1));
-    assert_eq!(rt; numbers(shelf.read_below(3, &mut out)), (11, 3, 0));
-    assert_eq!(rt; numbers(shelf.read(4, &mut out)), (10, 4, 0));
-    assert_eq!(rt; numbers(shelf.put(4, Offset::of(0), 1)), (10, 4, 0));
+    assert_eq!(rt;
+        shelf.read(3, &mut out),
+        Err(Fault {
+            cause: 11,
+            tile: 3,
+            level: 1
+        })
+    );
+    assert_eq!(rt;
+        shelf.read_below(3, &mut out),
+        Err(Fault {
+            cause: 11,
+            tile: 3,
+            level: 0
+        })
+    );
+    assert_eq!(rt;
+        shelf.read(4, &mut out),
+        Err(Fault {
+            cause: 10,
+            tile: 4,
+            level: 0
+        })
+    );
+    assert_eq!(rt;
+        shelf.put(4, Offset::of(0), 1),
+        Err(Fault {
+            cause: 10,
+            tile: 4,
+            level: 0
+        })
+    );
     assert_eq!(rt; out[0], 7);
     assert!(rt; shelf.list().len() == 1);
     assert_eq!(rt; shelf.fetches(), 1);
@@ -88,11 +94,32 @@ fn a_refused_read_moves_nothing(rt: HostRuntime) -> Result<(), Fail> {
 #[test]
 fn a_byte_above_the_top_is_refused(rt: HostRuntime) -> Result<(), Fail> {
     let mut shelf = Shelf::new(Bits::new(vec![in rt.alloc(); 0u8; 16]?));
-    assert_eq!(rt; numbers(shelf.put(1, Offset::of(5), 2)), (12, 1, 0));
-    assert_eq!(rt; numbers(shelf.put(2, Offset::of(5), 2)), (10, 2, 0));
-    assert_eq!(rt; numbers(shelf.write(1, &[3; 64])), (12, 1, 0));
+    assert_eq!(rt;
+        shelf.put(1, Offset::of(5), 2),
+        Err(Fault {
+            cause: 12,
+            tile: 1,
+            level: 0
+        })
+    );
+    assert_eq!(rt;
+        shelf.put(2, Offset::of(5), 2),
+        Err(Fault {
+            cause: 10,
+            tile: 2,
+            level: 0
+        })
+    );
+    assert_eq!(rt;
+        shelf.write(1, &[3; 64]),
+        Err(Fault {
+            cause: 12,
+            tile: 1,
+            level: 0
+        })
+    );
     assert!(rt; shelf.list().len() == 0);
-    assert_eq!(rt; numbers(shelf.put(1, Offset::of(5), 1)), (0, 0, 0));
+    assert_eq!(rt; shelf.put(1, Offset::of(5), 1), Ok(()));
     let memory = shelf.into_below().into_memory();
     assert!(rt; memory.len() == 16);
     assert_eq!(rt; (memory[7], memory[8], memory[15]), (0, 32, 0));
@@ -102,8 +129,8 @@ fn a_byte_above_the_top_is_refused(rt: HostRuntime) -> Result<(), Fail> {
 #[test]
 fn a_settled_shelf_has_no_marks(rt: HostRuntime) -> Result<(), Fail> {
     let mut shelf = Shelf::new(Memory::new(vec![in rt.alloc(); 0u8; 192]?));
-    assert_eq!(rt; numbers(shelf.write(2, &[4; 64])), (0, 0, 0));
-    assert_eq!(rt; numbers(shelf.put(0, Offset::of(1), 6)), (0, 0, 0));
+    assert_eq!(rt; shelf.write(2, &[4; 64]), Ok(()));
+    assert_eq!(rt; shelf.put(0, Offset::of(1), 6), Ok(()));
     shelf.settle();
     let list = shelf.list();
     assert!(rt; list.len() == 2);
@@ -128,9 +155,16 @@ fn a_shelf_is_a_layer(rt: HostRuntime) -> Result<(), Fail> {
     assert_eq!(rt; shelf.count(), 2);
     assert_eq!(rt; shelf.top(), 255);
     let mut out = [7u8; 64];
-    assert_eq!(rt; numbers(shelf.read(1, &mut out)), (11, 2, 3));
-    assert_eq!(rt; numbers(shelf.write(0, &[8; 64])), (0, 0, 0));
-    assert_eq!(rt; numbers(shelf.read(0, &mut out)), (0, 0, 0));
+    assert_eq!(rt;
+        shelf.read(1, &mut out),
+        Err(Fault {
+            cause: 11,
+            tile: 2,
+            level: 3
+        })
+    );
+    assert_eq!(rt; shelf.write(0, &[8; 64]), Ok(()));
+    assert_eq!(rt; shelf.read(0, &mut out), Ok(()));
     assert_eq!(rt; out[0], 8);
     let inner = shelf.into_below().into_below();
     assert!(rt; inner.list().len() == 1);

@@ -1,7 +1,6 @@
 -- What a shelf keeps holds in one way at most, so that a struct can keep it in a ghost field.
 use Rattle.std.proofs.Common.{◌≡◌, List, Some, None, Option, sym, refl, ap, ◌∙◌, subst}
 use mathlib.Core.Path.{path_j'}
-use mathlib.Core.Logic.{∥∥₁_elim}
 use mathlib.Core.HLevel.{Π_prop}
 use native.Mathlib.Bridge.{le_prop}
 use base.Stored.{Coded-set, coded_ℕ, coded_list}
@@ -42,13 +41,9 @@ good_prop b e p q = λ i. record {
   same = Π_prop (λ c. Coded-set (coded_list coded_ℕ) _ _) p.same q.same i;
 }
 
-kept_prop : (b : Store) (es : List Entry) → IsProp (Kept b es)
+pub kept_prop : (b : Store) (es : List Entry) → IsProp (Kept b es)
 kept_prop b es p q = λ i. record {
   few = le_prop p.few q.few i;
   good = Π_prop (λ j. Π_prop (λ l. good_prop b _)) p.good q.good i;
   apart = Π_prop (λ j. Π_prop (λ k. Π_prop (λ l. Π_prop (λ m. Π_prop (λ e. Coded-set coded_ℕ _ _))))) p.apart q.apart i;
 }
-
--- out of a ghost field
-pub kept_out : (b : Store) (es : List Entry) → ∥ Kept b es ∥₁ → Kept b es
-kept_out b es t = ∥∥₁_elim t (kept_prop b es) (λ k. k)

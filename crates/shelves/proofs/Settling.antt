@@ -61,50 +61,17 @@ written_back_push : (b : Store) (xs : List Entry) (x : Entry) → written_back b
 written_back_push b [] x = refl
 written_back_push b (y ∷ xs) x = written_back_push (written_back b (y ∷ [])) xs x
 
--- a settle on its way: the first p tiles are written below and their marks cleared
-module _ (b0 b : Store) (es0 es : List Entry) (p : ℕ) (kept : Kept b0 es0) (lt : p < length es0) (eb : b ≡ written_back b0 (take p es0)) (el : es ≡ map cleaned (take p es0) ++ drop p es0) where
-  long : length es ≡ length es0
-  long = ap length el ∙ simp (length-append, length-map, length-take, length-drop) (omega arith)
-
-  here : get_or es p blank ≡ get_or es0 p blank
-  here =
-      let n : length (map cleaned (take p es0)) ≡ p = length-map (take p es0) cleaned ∙ length-take p es0 ∙ omega arith in
-      let z : p + (p - p) ≡ p = omega arith in
-      ap (λ (q : List Entry). get_or q p blank) el ∙ get_or-append_right (map cleaned (take p es0)) (drop p es0) p p blank n (omega arith) ∙ get_or-drop p es0 (p - p) blank ∙ ap (λ n. get_or es0 n blank) z
-
+-- a settle on its way: the first p tiles are written below
+module _ (b0 b : Store) (es : List Entry) (p : ℕ) (kept : Kept b0 es) (lt : p < length es) (eb : b ≡ written_back b0 (take p es)) where
   -- the next tile
-  pub next_entry : (e : Entry) → Some e ≡ entry_at es p → e ≡ get_or es0 p blank
-  next_entry e q =
-      let s : ◌≡◌ {A = Option Entry} (Some e) (Some (get_or es p blank)) = q ∙ entry_at_lem es p (omega (arith, long)) in
-      let g : e ≡ get_or es p blank = cc in
-      g ∙ here
-
-  pub next_some : None ≡ entry_at es p → ⊥
-  next_some q =
-      let s : ◌≡◌ {A = Option Entry} None (Some (get_or es p blank)) = q ∙ entry_at_lem es p (omega (arith, long)) in
-      let z : ◌≡◌ {A = ℕ} 0 1 = cc in omega arith
-
-  pub next_good : (e : Entry) → e ≡ get_or es0 p blank → Good b e
-  next_good e q =
-      rw (q, eb) (good_written_back b0 (take p es0) (get_or es0 p blank) (kept.good p lt)
-      (λ j lj q. let m : j < min p (length es0) = simp length-take at lj in
+  pub next_good : Good b (get_or es p blank)
+  next_good =
+      rw eb (good_written_back b0 (take p es) (get_or es p blank) (kept.good p lt)
+      (λ j lj q. let m : j < min p (length es) = simp length-take at lj in
       let m1 : j < p = omega arith in
-      let e : j ≡ p = kept.apart j p (omega arith) lt (ap (λ (x : Entry). x.tile) (sym (get_or-take p es0 j blank m1)) ∙ q) in omega arith))
+      let e : j ≡ p = kept.apart j p (omega arith) lt (ap (λ (x : Entry). x.tile) (sym (get_or-take p es j blank m1)) ∙ q) in omega arith))
 
-  pub next-below : (b' : Store) (e : Entry) → e ≡ get_or es0 p blank → b' ≡ written_back b (e ∷ []) → b' ≡ written_back b0 (take (p + 1) es0)
-  next-below b' e q w =
-      w ∙ ap (λ (z : Entry). written_back b (z ∷ [])) q ∙ ap (λ z. written_back z (get_or es0 p blank ∷ [])) eb
-      ∙ sym (ap (written_back b0) (take_more es0 p blank lt) ∙ written_back_push b0 (take p es0) (get_or es0 p blank))
-
-  pub next_list : (es' : List Entry) → es' ≡ set es p (cleaned (get_or es p blank)) → es' ≡ map cleaned (take (p + 1) es0) ++ drop (p + 1) es0
-  next_list es' q = q ∙ map_over_more cleaned es0 es p (get_or es p blank) lt el (get_or_default es p blank (get_or es p blank) (omega (arith, long)))
-
--- and at its end
-pub settle_ends : (b0 b : Store) (es0 es : List Entry) (n m p : ℕ) → length es0 ≤ p → b ≡ written_back b0 (take p es0) → es ≡ map cleaned (take p es0) ++ drop p es0 → m ≡ n
-    → ◌≡◌ {A = Shelved} (record { list = es; below = b; fetches = m }) (settled (record { list = es0; below = b0; fetches = n }))
-settle_ends b0 b es0 es n m p h eb el en =
-    let t : take p es0 ≡ es0 = take_all p es0 h in
-    let d : drop p es0 ≡ [] = drop_all p es0 h in
-    let l : es ≡ map cleaned es0 = el ∙ ap (λ z. map cleaned (take p es0) ++ z) d ∙ append-nil (map cleaned (take p es0)) ∙ ap (map cleaned) t in
-    let w : b ≡ written_back b0 es0 = eb ∙ ap (written_back b0) t in
-    cc
+  pub next-below : (b' : Store) → b' ≡ written_back b (get_or es p blank ∷ []) → b' ≡ written_back b0 (take (p + 1) es)
+  next-below b' w =
+      w ∙ ap (λ z. written_back z (get_or es p blank ∷ [])) eb
+      ∙ sym (ap (written_back b0) (take_more es p blank lt) ∙ written_back_push b0 (take p es) (get_or es p blank))

@@ -1,19 +1,7 @@
-ghost use Rattle.std.specs.Prelude.{◌≡◌, Ok, Err};
-
 use refusals::Fault;
 use std::alloc::{AllocError, Global};
 use std::test::Fail;
 use stores::{Bits, Card, Memory, TileStore, Window};
-
-// Cause, tile and level of a refusal, and zeros of what was accepted.
-fn numbers(answer: Result<(), Fault>) -> (u8, u32, u8)
-    ensures { elim answer [ Ok u ↦ result ≡ (0, 0, 0) | Err f ↦ result ≡ (f.cause, f.tile, f.level) ] }
-{
-    match answer {
-        Ok(()) => (0, 0, 0),
-        Err(fault) => (fault.cause, fault.tile, fault.level),
-    }
-}
 
 #[test]
 fn only_whole_tiles_count(rt: HostRuntime) -> Result<(), Fail> {
@@ -29,9 +17,16 @@ fn only_whole_tiles_count(rt: HostRuntime) -> Result<(), Fail> {
 fn a_refused_read_leaves_the_buffer(rt: HostRuntime) -> Result<(), Fail> {
     let mut store = Memory::new(vec![in rt.alloc(); 1u8; 127]?);
     let mut out = [7u8; 64];
-    assert_eq!(rt; numbers(store.read(1, &mut out)), (10, 1, 0));
+    assert_eq!(rt;
+        store.read(1, &mut out),
+        Err(Fault {
+            cause: 10,
+            tile: 1,
+            level: 0
+        })
+    );
     assert_eq!(rt; out[0], 7);
-    assert_eq!(rt; numbers(store.read(0, &mut out)), (0, 0, 0));
+    assert_eq!(rt; store.read(0, &mut out), Ok(()));
     assert_eq!(rt; out[63], 1);
     Ok(())
 }
@@ -42,8 +37,15 @@ fn a_card_keeps_its_marks_and_its_tail(rt: HostRuntime) -> Result<(), Fail> {
     memory[0] = 0;
     let mut card = Card::new(memory);
     let bytes = [4u8; 64];
-    assert_eq!(rt; numbers(card.write(1, &bytes)), (11, 1, 0));
-    assert_eq!(rt; numbers(card.write(0, &bytes)), (0, 0, 0));
+    assert_eq!(rt;
+        card.write(1, &bytes),
+        Err(Fault {
+            cause: 11,
+            tile: 1,
+            level: 0
+        })
+    );
+    assert_eq!(rt; card.write(0, &bytes), Ok(()));
     let memory = card.into_memory();
     assert!(rt; memory.len() == 133);
     assert_eq!(rt; (memory[0], memory[1], memory[64]), (0, 4, 4));
@@ -56,10 +58,24 @@ fn the_lowest_bit_comes_first(rt: HostRuntime) -> Result<(), Fail> {
     let mut bits = Bits::new(vec![in rt.alloc(); 255u8; 9]?);
     let mut codes = [0u8; 64];
     codes[9] = 1;
-    assert_eq!(rt; numbers(bits.write(0, &codes)), (0, 0, 0));
+    assert_eq!(rt; bits.write(0, &codes), Ok(()));
     codes[63] = 2;
-    assert_eq!(rt; numbers(bits.write(0, &codes)), (12, 0, 0));
-    assert_eq!(rt; numbers(bits.write(1, &codes)), (10, 1, 0));
+    assert_eq!(rt;
+        bits.write(0, &codes),
+        Err(Fault {
+            cause: 12,
+            tile: 0,
+            level: 0
+        })
+    );
+    assert_eq!(rt;
+        bits.write(1, &codes),
+        Err(Fault {
+            cause: 10,
+            tile: 1,
+            level: 0
+        })
+    );
     let memory = bits.into_memory();
     assert!(rt; memory.len() == 9);
     assert_eq!(rt;
@@ -87,8 +103,22 @@ fn a_level_is_a_depth(rt: HostRuntime) -> Result<(), Fail> {
     memory[130] = 1;
     let mut window = Window::new(Window::new(Card::new(memory), 1, 9), 1, 1);
     let mut out = [7u8; 64];
-    assert_eq!(rt; numbers(window.read(0, &mut out)), (11, 2, 2));
-    assert_eq!(rt; numbers(window.read(1, &mut out)), (10, 1, 0));
+    assert_eq!(rt;
+        window.read(0, &mut out),
+        Err(Fault {
+            cause: 11,
+            tile: 2,
+            level: 2
+        })
+    );
+    assert_eq!(rt;
+        window.read(1, &mut out),
+        Err(Fault {
+            cause: 10,
+            tile: 1,
+            level: 0
+        })
+    );
     assert_eq!(rt; out[0], 7);
     Ok(())
 }

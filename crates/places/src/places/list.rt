@@ -55,8 +55,7 @@ impl Places {
         ensures { list_of self.new ≡ moved_to_front (list_of self.old) p }
     {
         if p < self.len() {
-            let front = self.entries.remove(p);
-            self.entries.insert(0, front);
+            self.entries.as_mut_slice()[0..p + 1].rotate_right(1);
         }
     }
 

@@ -11,7 +11,7 @@ use stores::TileStore;
 impl<S: TileStore> Shelf<S> {
     /// The byte at an offset of tile k, with the touch of a read of that tile.
     pub fn get(&mut self, k: u32, at: Offset) -> Result<u8, Fault>
-        ensures { Does S.TileStore.meaning S.TileStore.intact S.TileStore.steps self.old self.new (λ h. touch_accesses h k) (λ h h'. ByteRead h k at.index result h') }
+        ensures { Does self.old self.new (λ h. touch_accesses h k) (λ h h'. ByteRead h k at.index result h') }
     {
         self.touch(k)?;
         Ok(self.places.front_byte(at))
@@ -19,7 +19,7 @@ impl<S: TileStore> Shelf<S> {
 
     /// Puts a byte at an offset of tile k, with the touch and the change of a write of that tile.
     pub fn put(&mut self, k: u32, at: Offset, byte: u8) -> Result<(), Fault>
-        ensures { Does S.TileStore.meaning S.TileStore.intact S.TileStore.steps self.old self.new (λ h. write_accesses h k (slice_set (tile_of (store_of h) k) at.index byte)) (λ h h'. BytePut h k at.index byte result h') }
+        ensures { Does self.old self.new (λ h. write_accesses h k (slice_set (tile_of (store_of h) k) at.index byte)) (λ h h'. BytePut h k at.index byte result h') }
     {
         self.check_top(k, byte > self.below.top())?;
         self.touch(k)?;

@@ -3,10 +3,10 @@ ghost use Rattle.stores.specs.Meaning.{Reached, reading};
 ghost use Rattle.shelves.specs.Shelves.{SettledAs, BelowRead, settled, writes_back};
 ghost use Rattle.shelves.specs.Runs.{ShelfLaw};
 ghost use Rattle.places.specs.Places.{list_of};
-ghost use Rattle.shelf.specs.Shelf.{shelved, Intact, Did, Does};
+ghost use Rattle.shelf.specs.Shelf.{shelved, Did, Does};
 
 use super::Shelf;
-use super::touch::write_back;
+use super::touch::write_all_back;
 use places::Places;
 use refusals::Fault;
 use shelves::Entry;
@@ -16,8 +16,7 @@ impl<S: TileStore> Shelf<S> {
     /// An empty shelf over a store.
     pub fn new(below: S) -> Shelf<S>
         ensures law { ShelfLaw }
-        ensures intact { S.TileStore.intact below → Intact S.TileStore.meaning S.TileStore.intact result }
-        ensures empty { shelved S.TileStore.meaning result ≡ record { list = []; below = S.TileStore.meaning below; fetches = 0 } }
+        ensures empty { shelved result ≡ record { list = []; below = S.meaning below; fetches = 0 } }
     {
         Shelf {
             below,
@@ -28,39 +27,36 @@ impl<S: TileStore> Shelf<S> {
 
     /// The tiles on the shelf by last use, front first.
     pub fn list(&self) -> &[Entry]
-        ensures { result.now ≡ (shelved S.TileStore.meaning self.now).list }
+        ensures { result.now ≡ (shelved self.now).list }
     {
         self.places.list()
     }
 
     /// How many tiles were fetched since the shelf was made or the count begun anew, at most 2^64−1.
     pub fn fetches(&self) -> u64
-        ensures { result ≡ (shelved S.TileStore.meaning self.now).fetches }
+        ensures { result ≡ (shelved self.now).fetches }
     {
         self.fetches
     }
 
     /// Writes the changed tiles below, front first; then none is changed.
     pub fn settle(&mut self)
-        ensures { Does S.TileStore.meaning S.TileStore.intact S.TileStore.steps self.old self.new (λ h. writes_back h.list) SettledAs }
+        ensures { Does self.old self.new (λ h. writes_back h.list) SettledAs }
     {
-        for p in 0..self.places.len() {
-            if let Some(entry) = self.places.clear_mark(p) {
-                write_back(&mut self.below, &entry);
-            }
-        }
+        write_all_back(&mut self.below, self.places.list());
+        self.places.clear_marks();
     }
 
     /// Reads tile k of the store below, as that store answers, and touches nothing.
     pub fn read_below(&mut self, k: u32, out: &mut [u8; 64]) -> Result<(), Fault>
-        ensures { Does S.TileStore.meaning S.TileStore.intact S.TileStore.steps self.old self.new (λ h. reading k ∷ []) (λ h h'. BelowRead h k out.old result out.new h') }
+        ensures { Does self.old self.new (λ h. reading k ∷ []) (λ h h'. BelowRead h k out.old result out.new h') }
     {
         self.below.read(k, out)
     }
 
     /// Settles the shelf, and gives the store below back.
     pub fn into_below(mut self) -> S
-        ensures { Intact S.TileStore.meaning S.TileStore.intact self → Did (S.TileStore.intact result) (Reached S.TileStore.steps self.below (writes_back (shelved S.TileStore.meaning self).list) result) (S.TileStore.meaning result ≡ (settled (shelved S.TileStore.meaning self)).below) }
+        ensures { Did (Reached S.steps self.below (writes_back (shelved self).list) result) (S.meaning result ≡ (settled (shelved self)).below) }
     {
         self.settle();
         let Shelf {

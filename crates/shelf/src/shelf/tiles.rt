@@ -1,6 +1,6 @@
-ghost use Rattle.stores.specs.Meaning.{ReadAs, WrittenAs, Done, reading, writing};
+ghost use Rattle.stores.specs.Meaning.{ReadAs, WrittenAs, reading, writing};
 ghost use Rattle.shelves.specs.Shelves.{TileRead, TileWritten, store_of, touch_accesses, write_accesses};
-ghost use Rattle.shelf.specs.Shelf.{shelved, Intact, Does, ShelfSteps};
+ghost use Rattle.shelf.specs.Shelf.{shelved, Does, ShelfSteps};
 ghost use Rattle.shelves.proofs.Showing.{shelf_lawful};
 ghost use Rattle.places.specs.Places.{list_of};
 
@@ -11,7 +11,7 @@ use stores::{TileStore, any_above};
 impl<S: TileStore> Shelf<S> {
     // Copies the bytes of tile k, which is touched.
     fn read_whole(&mut self, k: u32, out: &mut [u8; 64]) -> Result<(), Fault>
-        ensures { Does S.TileStore.meaning S.TileStore.intact S.TileStore.steps self.old self.new (λ h. touch_accesses h k) (λ h h'. TileRead h k out.old result out.new h') }
+        ensures { Does self.old self.new (λ h. touch_accesses h k) (λ h h'. TileRead h k out.old result out.new h') }
     {
         self.touch(k)?;
         self.places.read_front(out);
@@ -20,7 +20,7 @@ impl<S: TileStore> Shelf<S> {
 
     // Replaces the bytes of tile k, which is touched and changed.
     fn write_whole(&mut self, k: u32, bytes: &[u8; 64]) -> Result<(), Fault>
-        ensures { Does S.TileStore.meaning S.TileStore.intact S.TileStore.steps self.old self.new (λ h. write_accesses h k bytes.now) (λ h h'. TileWritten h k bytes.now result h') }
+        ensures { Does self.old self.new (λ h. write_accesses h k bytes.now) (λ h h'. TileWritten h k bytes.now result h') }
     {
         self.check_top(k, any_above(bytes, self.below.top()))?;
         self.touch(k)?;
@@ -30,13 +30,11 @@ impl<S: TileStore> Shelf<S> {
 }
 
 impl<S: TileStore> TileStore for Shelf<S> {
-    ghost meaning = { λ h. store_of (shelved S.TileStore.meaning h) };
+    ghost meaning = { λ h. store_of (shelved h) };
 
-    ghost intact = { Intact S.TileStore.meaning S.TileStore.intact };
+    ghost steps = { ShelfSteps };
 
-    ghost steps = { ShelfSteps S.TileStore.meaning S.TileStore.steps };
-
-    ghost lawful = { λ s ok. shelf_lawful (list_of s.places) (S.TileStore.meaning s.below) (S.TileStore.lawful s.below ok.0) ok.1 };
+    ghost lawful = { λ s. shelf_lawful (list_of s.places) (S.meaning s.below) (S.lawful s.below) s.kept };
 
     fn count(&self) -> u32 {
         self.below.count()
@@ -47,17 +45,17 @@ impl<S: TileStore> TileStore for Shelf<S> {
     }
 
     fn read(&mut self, k: u32, out: &mut [u8; 64]) -> Result<(), Fault>
-        ensures does { Intact S.TileStore.meaning S.TileStore.intact self.old → Done (Intact S.TileStore.meaning S.TileStore.intact self.new) (ReadAs (store_of (shelved S.TileStore.meaning self.old)) k out.old result out.new (store_of (shelved S.TileStore.meaning self.new))) }
-        ensures steps { Intact S.TileStore.meaning S.TileStore.intact self.old → ShelfSteps S.TileStore.meaning S.TileStore.steps self.old (reading k) self.new }
-        ensures leaves { Does S.TileStore.meaning S.TileStore.intact S.TileStore.steps self.old self.new (λ h. touch_accesses h k) (λ h h'. TileRead h k out.old result out.new h') }
+        ensures does { ReadAs (store_of (shelved self.old)) k out.old result out.new (store_of (shelved self.new)) }
+        ensures steps { ShelfSteps self.old (reading k) self.new }
+        ensures leaves { Does self.old self.new (λ h. touch_accesses h k) (λ h h'. TileRead h k out.old result out.new h') }
     {
         self.read_whole(k, out)
     }
 
     fn write(&mut self, k: u32, bytes: &[u8; 64]) -> Result<(), Fault>
-        ensures does { Intact S.TileStore.meaning S.TileStore.intact self.old → Done (Intact S.TileStore.meaning S.TileStore.intact self.new) (WrittenAs (store_of (shelved S.TileStore.meaning self.old)) k bytes.now result (store_of (shelved S.TileStore.meaning self.new))) }
-        ensures steps { Intact S.TileStore.meaning S.TileStore.intact self.old → ShelfSteps S.TileStore.meaning S.TileStore.steps self.old (writing k bytes.now) self.new }
-        ensures leaves { Does S.TileStore.meaning S.TileStore.intact S.TileStore.steps self.old self.new (λ h. write_accesses h k bytes.now) (λ h h'. TileWritten h k bytes.now result h') }
+        ensures does { WrittenAs (store_of (shelved self.old)) k bytes.now result (store_of (shelved self.new)) }
+        ensures steps { ShelfSteps self.old (writing k bytes.now) self.new }
+        ensures leaves { Does self.old self.new (λ h. write_accesses h k bytes.now) (λ h h'. TileWritten h k bytes.now result h') }
     {
         self.write_whole(k, bytes)
     }

@@ -1,6 +1,6 @@
 ghost use Rattle.std.specs.Prelude.{◌≡◌, [], ◌∷◌, None};
 ghost use Rattle.stores.specs.Meaning.{Reached};
-ghost use Rattle.shelves.specs.Shelves.{TouchedAs, Good, place_of, recounted, written_back, touch_accesses, writes_back};
+ghost use Rattle.shelves.specs.Shelves.{TouchedAs, Good, Kept, place_of, recounted, written_back, touch_accesses, writes_back};
 ghost use Rattle.places.specs.Places.{list_of};
 ghost use Rattle.shelf.specs.Shelf.{Did, Does, above_refused};
 
@@ -11,24 +11,33 @@ use stores::{TileStore, above_top, past_count, raised};
 
 // Writes an entry to the store below, if it was changed.
 pub(crate) fn write_back<S: TileStore>(below: &mut S, entry: &Entry)
-    ensures { S.TileStore.intact below.old → Good (S.TileStore.meaning below.old) entry.now → Did (S.TileStore.intact below.new) (Reached S.TileStore.steps below.old (writes_back (entry.now ∷ [])) below.new) (S.TileStore.meaning below.new ≡ written_back (S.TileStore.meaning below.old) (entry.now ∷ [])) }
+    ensures { Good (S.meaning below.old) entry.now → Did (Reached S.steps below.old (writes_back (entry.now ∷ [])) below.new) (S.meaning below.new ≡ written_back (S.meaning below.old) (entry.now ∷ [])) }
 {
     if entry.changed {
         let _ = below.write(entry.tile, &entry.bytes);
     }
 }
 
+// Writes the changed ones of some entries to the store below, first to last.
+pub(crate) fn write_all_back<S: TileStore>(below: &mut S, entries: &[Entry])
+    ensures { Kept (S.meaning below.old) entries.now → Did (Reached S.steps below.old (writes_back entries.now) below.new) (S.meaning below.new ≡ written_back (S.meaning below.old) entries.now) }
+{
+    for entry in entries {
+        write_back(below, entry);
+    }
+}
+
 impl<S: TileStore> Shelf<S> {
     /// Begins the count of fetches anew.
     pub fn recount(&mut self)
-        ensures { Does S.TileStore.meaning S.TileStore.intact S.TileStore.steps self.old self.new (λ _. []) (λ h h'. h' ≡ recounted h) }
+        ensures { Does self.old self.new (λ _. []) (λ h h'. h' ≡ recounted h) }
     {
         self.fetches = 0;
     }
 
     // Refuses a byte above the top, if tile k exists. If it does not, the touch refuses its number.
     pub(crate) fn check_top(&self, k: u32, above: bool) -> Result<(), Fault>
-        ensures { S.TileStore.intact self.now.below → result ≡ above_refused (S.TileStore.meaning self.now.below) k above }
+        ensures { result ≡ above_refused (S.meaning self.now.below) k above }
     {
         if above && k < self.below.count() {
             Err(above_top(k))
@@ -39,7 +48,7 @@ impl<S: TileStore> Shelf<S> {
 
     // Tile k comes to the front, by a fetch if it is not on the shelf.
     pub(crate) fn touch(&mut self, k: u32) -> Result<(), Fault>
-        ensures { Does S.TileStore.meaning S.TileStore.intact S.TileStore.steps self.old self.new (λ h. touch_accesses h k) (λ h h'. TouchedAs h k result h') }
+        ensures { Does self.old self.new (λ h. touch_accesses h k) (λ h h'. TouchedAs h k result h') }
     {
         if self.places.front_is(k) {
             return Ok(());
@@ -56,7 +65,7 @@ impl<S: TileStore> Shelf<S> {
     // Tile k, which is not on the shelf, comes from below to the front.
     fn fetch(&mut self, k: u32) -> Result<(), Fault>
         requires { place_of (list_of self.old.places) k ≡ None }
-        ensures { Does S.TileStore.meaning S.TileStore.intact S.TileStore.steps self.old self.new (λ h. touch_accesses h k) (λ h h'. TouchedAs h k result h') }
+        ensures { Does self.old self.new (λ h. touch_accesses h k) (λ h h'. TouchedAs h k result h') }
     {
         if k >= self.below.count() {
             return Err(past_count(k));

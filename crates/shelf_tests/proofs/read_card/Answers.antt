@@ -7,7 +7,7 @@ use Rattle.shelf_tests.proofs.read_card.Goals as goal
 
 pub returns : goal.returns
 returns c =
-    let e = (c.read.ensures.does (c.new-shelf.ensures.intact tt)).does in
+    let e = c.read.ensures.does in
     let made : ◌≡◌ {A = Store} _ (store_of (over (image card_layout (vec_items c.args.memory)))) = ap store_of (c.new-shelf.ensures.empty ∙ ap (λ v. over (image card_layout (vec_items v))) c.new.ensures) in
     record {
       answers = e.answer ∙ ap (λ (z : Store). read z c.args.k) made;

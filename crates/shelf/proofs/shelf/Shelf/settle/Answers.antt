@@ -1,46 +1,31 @@
-use Rattle.std.proofs.Common.{◌<◌, ◌≤◌, length, sym, refl, ◌∙◌, subst, arith}
-use Rattle.shelves.specs.Shelves.{Shelved, Kept}
-use Rattle.shelves.proofs.Settling.{next_entry, next_some, next_good, next-below, next_list, settle_ends, settled_as, kept_settled}
+use Rattle.std.proofs.Common.{List, sym, refl, ap, ◌∙◌, subst}
+use Rattle.shelves.specs.declared.entry.Entry.{Entry}
+use Rattle.shelves.specs.Shelves.{Kept, written_back}
+use Rattle.shelves.proofs.Settling.{settled_as, kept_settled}
+use Rattle.shelves.proofs.Touching.{shelved_same}
+use Rattle.places.specs.Places.{list_of}
 use Rattle.shelf.specs.Shelf.{shelved}
-use Rattle.shelf.proofs.Calls.{settle_reaches, settled_reaches}
+use Rattle.shelf.proofs.Calls.{reached_by}
+use Rattle.shelves.specs.Shelves.{writes_back}
 use Rattle.shelf.proofs.shelf.Shelf.settle.Goals as goal
-use Rattle.shelf.proofs.shelf.Shelf.settle.Goals.{in-Some, in_default}
 
-pub loop-p-init : goal.loop-p-init
-loop-p-init g c ok = (ok.0, refl, refl, refl, refl)
-
-pub loop-p-preserved : goal.loop-p-preserved
-loop-p-preserved g c ok =
-    let m = g.S.TileStore.meaning in
-    let h0 = shelved m c.args.self.now in
-    let h = shelved m c.loop-p.self in
-    let p = c.loop-p.p in
-    let i = c.loop-p.invariant ok in
-    let lt : p < length h0.list = omega (arith, c.loop-p-test.true, c.len-p-end.ensures) in
-    elim c.match-clear_mark.branch [
-      | in-Some w ↦
-          let e = next_entry h0.below h.below h0.list h.list p ok.1 lt i.2 i.3 _ (sym w.in-Some.is ∙ c.clear_mark.ensures.was) in
-          let back = w.write_back.ensures i.0 (next_good h0.below h.below h0.list h.list p ok.1 lt i.2 i.3 _ e) in
-          rw w.self-is (
-            back.stays,
-            settle_reaches g.S.TileStore.steps _ _ _ h0.list p _ lt e i.1 back.reaches,
-            next-below h0.below h.below h0.list h.list p ok.1 lt i.2 i.3 _ _ e back.does,
-            next_list h0.below h.below h0.list h.list p ok.1 lt i.2 i.3 _ c.clear_mark.ensures.leaves,
-            i.4,
-          )
-      | in_default w ↦ absurd (next_some h0.below h.below h0.list h.list p ok.1 lt i.2 i.3 (sym w.in_default.is ∙ c.clear_mark.ensures.was))
-    ]
+pub invariant_of-self : goal.invariant_of-self
+invariant_of-self g c =
+    let b = g.S.TileStore.meaning c.args.self.now.below in
+    let es = list_of c.args.self.now.places in
+    let is = c.list.ensures.is in
+    let back = c.write_all_back.ensures (subst (λ (z : List Entry). Kept b z) (sym is) c.args.self.now.kept) in
+    let w = back.does ∙ ap (written_back b) is in
+    record { kept = rw (w, c.clear_marks.ensures) (kept_settled b es c.args.self.now.kept) }
 
 pub returns : goal.returns
-returns g c ok =
-    let m = g.S.TileStore.meaning in
-    let h0 = shelved m c.args.self.now in
-    let h = shelved m c.loop-p.self in
-    let i = c.loop-p.invariant ok in
-    let ends : length h0.list ≤ c.loop-p.p = omega (arith, c.loop-p-test.false, c.len-p-end.ensures) in
-    let e = settle_ends h0.below h.below h0.list h.list h0.fetches h.fetches c.loop-p.p ends i.2 i.3 i.4 in
+returns g c =
+    let b = g.S.TileStore.meaning c.args.self.now.below in
+    let es = list_of c.args.self.now.places in
+    let is = c.list.ensures.is in
+    let back = c.write_all_back.ensures (subst (λ (z : List Entry). Kept b z) (sym is) c.args.self.now.kept) in
+    let w = back.does ∙ ap (written_back b) is in
     record {
-      stays = (i.0, subst (λ (z : Shelved). Kept z.below z.list) (sym e) (kept_settled h0.below h0.list ok.1));
-      reaches = settled_reaches g.S.TileStore.steps _ _ h0.list c.loop-p.p ends i.1;
-      does = settled_as h0 h ok.1 e;
+      reaches = reached_by g.S.TileStore.steps _ _ _ _ (ap writes_back is) back.reaches;
+      does = settled_as (shelved c.args.self.now) _ c.args.self.now.kept (shelved_same _ _ _ _ _ _ c.clear_marks.ensures w refl);
     }

@@ -6,45 +6,50 @@ use Rattle.shelf.proofs.Calls.{top_refused, top_reaches, touch_refused, write_re
 use Rattle.shelf.proofs.shelf.Shelf.write_whole.Goals as goal
 
 pub returns-in_err-check_top : goal.returns-in_err-check_top
-returns-in_err-check_top g c ok =
-    let h = shelved g.S.TileStore.meaning c.args.self.now in
-    let l = g.met.S.TileStore.lawful c.args.self.now.below ok.0 in
+returns-in_err-check_top g c =
+    let h = shelved c.args.self.now in
+    let l = g.met.S.TileStore.lawful c.args.self.now.below in
     let bytes = c.args.bytes.now in
     let was = c.in_err-check_top.was in
     record {
-      stays = ok;
-      reaches = top_reaches h l ok.1 c.args.k bytes _ (λ w. c.any_above.ensures ∙ ap (λ n. any_above n bytes) (c.top.ensures ok.0)) c.check_top.result (c.check_top.ensures ok.0) g.S.TileStore.steps _ _ was;
-      does = top_refused h l ok.1 c.args.k bytes _ (λ w. c.any_above.ensures ∙ ap (λ n. any_above n bytes) (c.top.ensures ok.0)) c.check_top.result (c.check_top.ensures ok.0) _ c.from_residual.result
+      reaches = top_reaches h l c.args.self.now.kept c.args.k bytes _ (λ w. c.any_above.ensures ∙ ap (λ n. any_above n bytes) c.top.ensures) c.check_top.result c.check_top.ensures g.S.TileStore.steps _ _ was;
+      does = top_refused h l c.args.self.now.kept c.args.k bytes _ (λ w. c.any_above.ensures ∙ ap (λ n. any_above n bytes) c.top.ensures) c.check_top.result c.check_top.ensures _ c.from_residual.result
           (left_by c.from_residual.result c.check_top.result _ c.from_residual.ensures.1 was) was;
     }
 
 pub returns-in_err-touch : goal.returns-in_err-touch
-returns-in_err-touch g c ok =
-    let m = g.S.TileStore.meaning in
-    let h = shelved m c.args.self.now in
-    let h1 = shelved m c.touch.new.self in
-    let l = g.met.S.TileStore.lawful c.args.self.now.below ok.0 in
+returns-in_err-touch g c =
+    let h = shelved c.args.self.now in
+    let h1 = shelved c.touch.new.self in
+    let l = g.met.S.TileStore.lawful c.args.self.now.below in
     let bytes = c.args.bytes.now in
     let was = c.in_err-touch.was in
-    let e = c.touch.ensures ok in
+    let e = c.touch.ensures in
     record {
-      stays = e.stays;
-      reaches = write_reaches h l ok.1 c.args.k bytes _ (λ w. c.any_above.ensures ∙ ap (λ n. any_above n bytes) (c.top.ensures ok.0)) c.check_top.result (c.check_top.ensures ok.0) c.in_ok-check_top.was c.touch.result h1 e.does g.S.TileStore.steps _ _ e.reaches;
-      does = touch_refused h l ok.1 c.args.k bytes _ (λ w. c.any_above.ensures ∙ ap (λ n. any_above n bytes) (c.top.ensures ok.0)) c.check_top.result (c.check_top.ensures ok.0) c.in_ok-check_top.was c.touch.result h1 e.does _ c.from_residual-in_err-touch.result
+      reaches = write_reaches h l c.args.self.now.kept c.args.k bytes _ (λ w. c.any_above.ensures ∙ ap (λ n. any_above n bytes) c.top.ensures) c.check_top.result c.check_top.ensures c.in_ok-check_top.was c.touch.result h1 e.does g.S.TileStore.steps _ _ e.reaches;
+      does = touch_refused h l c.args.self.now.kept c.args.k bytes _ (λ w. c.any_above.ensures ∙ ap (λ n. any_above n bytes) c.top.ensures) c.check_top.result c.check_top.ensures c.in_ok-check_top.was c.touch.result h1 e.does _ c.from_residual-in_err-touch.result
           (left_by c.from_residual-in_err-touch.result c.touch.result _ c.from_residual-in_err-touch.ensures.1 was) was;
     }
 
 pub returns : goal.returns
-returns g c ok =
-    let m = g.S.TileStore.meaning in
-    let h = shelved m c.args.self.now in
-    let h1 = shelved m c.touch.new.self in
-    let l = g.met.S.TileStore.lawful c.args.self.now.below ok.0 in
+returns g c =
+    let h = shelved c.args.self.now in
+    let h1 = shelved c.touch.new.self in
+    let l = g.met.S.TileStore.lawful c.args.self.now.below in
     let bytes = c.args.bytes.now in
-    let e = c.touch.ensures ok in
+    let e = c.touch.ensures in
     let was = c.in_ok-touch.was in
     record {
-      stays = (e.stays.0, write_stays h l ok.1 c.args.k bytes _ (λ w. c.any_above.ensures ∙ ap (λ n. any_above n bytes) (c.top.ensures ok.0)) c.check_top.result (c.check_top.ensures ok.0) c.in_ok-check_top.was c.touch.result h1 e.does was (λ w. c.told-bytes) _ c.write_front.ensures);
-      reaches = write_reaches h l ok.1 c.args.k bytes _ (λ w. c.any_above.ensures ∙ ap (λ n. any_above n bytes) (c.top.ensures ok.0)) c.check_top.result (c.check_top.ensures ok.0) c.in_ok-check_top.was c.touch.result h1 e.does g.S.TileStore.steps _ _ e.reaches;
-      does = write_does h l ok.1 c.args.k bytes _ (λ w. c.any_above.ensures ∙ ap (λ n. any_above n bytes) (c.top.ensures ok.0)) c.check_top.result (c.check_top.ensures ok.0) c.in_ok-check_top.was c.touch.result h1 e.does was (λ w. c.told-bytes) _ c.write_front.ensures;
+      reaches = write_reaches h l c.args.self.now.kept c.args.k bytes _ (λ w. c.any_above.ensures ∙ ap (λ n. any_above n bytes) c.top.ensures) c.check_top.result c.check_top.ensures c.in_ok-check_top.was c.touch.result h1 e.does g.S.TileStore.steps _ _ e.reaches;
+      does = write_does h l c.args.self.now.kept c.args.k bytes _ (λ w. c.any_above.ensures ∙ ap (λ n. any_above n bytes) c.top.ensures) c.check_top.result c.check_top.ensures c.in_ok-check_top.was c.touch.result h1 e.does was (λ w. c.told-bytes) _ c.write_front.ensures;
     }
+
+pub invariant_of-self : goal.invariant_of-self
+invariant_of-self g c =
+    let h = shelved c.args.self.now in
+    let h1 = shelved c.touch.new.self in
+    let l = g.met.S.TileStore.lawful c.args.self.now.below in
+    let bytes = c.args.bytes.now in
+    let e = c.touch.ensures in
+    let was = c.in_ok-touch.was in
+    record { kept = write_stays h l c.args.self.now.kept c.args.k bytes _ (λ w. c.any_above.ensures ∙ ap (λ n. any_above n bytes) c.top.ensures) c.check_top.result c.check_top.ensures c.in_ok-check_top.was c.touch.result h1 e.does was (λ w. c.told-bytes) _ c.write_front.ensures }

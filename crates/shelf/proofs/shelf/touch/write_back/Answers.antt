@@ -4,10 +4,8 @@ use Rattle.shelves.proofs.Touching.{write_good}
 use Rattle.shelf.proofs.shelf.touch.write_back.Goals as goal
 
 pub returns-then-entry : goal.returns-then-entry
-returns-then-entry g c ok good =
-    let d = c.write.ensures.does ok in
+returns-then-entry g c good =
     record {
-      stays = d.stays;
-      reaches = rw c.if-entry.true (c.write.new.self, c.write.ensures.steps ok, refl);
-      does = write_good _ _ c.args.entry.now _ good d.does ∙ sym (cond-true c.args.entry.now.changed _ _ c.if-entry.true);
+      reaches = rw c.if-entry.true (c.write.new.self, c.write.ensures.steps, refl);
+      does = write_good _ _ c.args.entry.now _ good c.write.ensures.does ∙ sym (cond-true c.args.entry.now.changed _ _ c.if-entry.true);
     }

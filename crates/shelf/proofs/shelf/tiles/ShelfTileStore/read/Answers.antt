@@ -6,10 +6,10 @@ use Rattle.shelf.proofs.shelf.tiles.ShelfTileStore.read.Goals as goal
 
 pub returns : goal.returns
 returns g c =
-    let h = shelved g.S.TileStore.meaning c.args.self.now in
+    let h = shelved c.args.self.now in
     let e = c.read_whole.ensures in
     record {
-      does = λ ok. record { stays = (e ok).stays; does = read_as h _ c.args.k _ _ _ (e ok).does };
-      steps = λ ok. record { after = (e ok).does.touches.after ∙ ap (λ z. touched_if z h c.args.k) (e ok).does.touches.answer; below = (e ok).reaches };
+      does = read_as h _ c.args.k _ _ _ e.does;
+      steps = record { after = e.does.touches.after ∙ ap (λ z. touched_if z h c.args.k) e.does.touches.answer; below = e.reaches };
       leaves = e;
     }

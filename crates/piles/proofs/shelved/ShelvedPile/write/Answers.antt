@@ -1,8 +1,0 @@
-use Rattle.piles.specs.Lawful.{intact}
-use Rattle.piles.proofs.shelved.ShelvedPile.write.Goals as goal
-
-pub invariant_of-self : goal.invariant_of-self
-invariant_of-self c = record { kept = ∣ (c.write.ensures.leaves (intact c.args.self.now)).stays.1 ∣₁ }
-
-pub returns : goal.returns
-returns c = (c.write.ensures.leaves (intact c.args.self.now)).does
