@@ -1,5 +1,5 @@
 /// A refusal as it is reported: five numbers, of which those that do not apply are 0.
-#[derive(Clone, Copy)]
+#[derive(Clone, Copy, Debug, Default, PartialEq, Eq)]
 pub struct FiveNumbers {
     pub number: u8,
     pub line: u32,

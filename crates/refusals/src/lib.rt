@@ -1,11 +1,11 @@
 //! Why a call says no: one enum for all reasons, and the five numbers by which each is reported.
 #![tactic(auto)]
 
-ghost use Rattle.std.specs.Prelude.{◌≡◌, List, ◌∷◌, ◌++◌, Some};
+ghost use Rattle.std.specs.Prelude.{◌≡◌, Some};
 ghost use Rattle.refusals.specs.declared.refusal.Refusal.{Refusal};
 ghost use Rattle.refusals.specs.declared.failure.Failure.TheVariants.{Refused, Memory};
 ghost use Rattle.refusals.specs.Numbers.{numbers};
-ghost use Rattle.refusals.specs.Written.{written};
+ghost use Rattle.refusals.specs.Written.{written, written_fault};
 
 use std::alloc::AllocError;
 use std::fmt;
@@ -20,60 +20,45 @@ pub use fault::Fault;
 pub use five::FiveNumbers;
 pub use refusal::Refusal;
 
+// The number alone, with 0 for the other four.
 fn only(number: u8) -> FiveNumbers
     ensures { result ≡ record { number = number; line = 0; cause = 0; tile = 0; level = 0 } }
 {
     FiveNumbers {
         number,
-        line: 0,
-        cause: 0,
-        tile: 0,
-        level: 0,
+        ..FiveNumbers::default()
     }
 }
 
-fn in_line(number: u8, line: u32) -> FiveNumbers
-    ensures { result ≡ record { number = number; line = line; cause = 0; tile = 0; level = 0 } }
-{
-    FiveNumbers {
-        number,
-        line,
-        cause: 0,
-        tile: 0,
-        level: 0,
-    }
-}
+impl From<Refusal> for FiveNumbers {
+    ghost from_gives = { λ refusal r. r ≡ numbers refusal };
 
-impl Refusal {
     /// The five numbers of the refusal. No other refusal has the same five.
-    pub fn numbers(&self) -> FiveNumbers
-        ensures are { result ≡ numbers self.now }
-        ensures apart { (other : Refusal) → numbers other ≡ result → other ≡ self.now }
+    fn from(refusal: Refusal) -> FiveNumbers
+        ensures are { result ≡ numbers refusal }
+        ensures apart { (other : Refusal) → numbers other ≡ result → other ≡ refusal }
     {
-        match *self {
+        match refusal {
             Refusal::Bare => only(20),
             Refusal::Shape => only(21),
             Refusal::ShortRing => only(22),
             Refusal::FewTiles => only(23),
             Refusal::LowTop => only(24),
-            Refusal::Unsound(f) => {
-                FiveNumbers {
-                    number: 25,
-                    line: 0,
-                    cause: f.cause,
-                    tile: f.tile,
-                    level: f.level,
-                }
-            }
+            Refusal::Unsound(f) => FiveNumbers {
+                cause: f.cause,
+                tile: f.tile,
+                level: f.level,
+                ..only(25)
+            },
             Refusal::Outside => only(26),
             Refusal::HighCode => only(27),
             Refusal::Steps => only(28),
             Refusal::Cutoff => only(29),
-            Refusal::NoLineEnd(line) => in_line(30, line),
-            Refusal::WrongKey(line) => in_line(31, line),
-            Refusal::WrongValue(line) => in_line(32, line),
-            Refusal::OtherValue(line) => in_line(33, line),
-            Refusal::HighRowCode(line) => in_line(34, line),
+            Refusal::NoLineEnd(line) => FiveNumbers { line, ..only(30) },
+            Refusal::WrongKey(line) => FiveNumbers { line, ..only(31) },
+            Refusal::WrongValue(line) => FiveNumbers { line, ..only(32) },
+            Refusal::OtherValue(line) => FiveNumbers { line, ..only(33) },
+            Refusal::HighRowCode(line) => FiveNumbers { line, ..only(34) },
             Refusal::ExtraBytes => only(36),
             Refusal::ShortBuffer => only(37),
             Refusal::VehicleLimits => only(40),
@@ -85,12 +70,19 @@ impl fmt::Display for FiveNumbers {
     ghost output = { λ n. Some (written n) };
 
     fn fmt<W: fmt::Write>(&self, f: &mut fmt::Formatter<W>) -> fmt::Result {
-        let number = self.number;
-        let line = self.line;
-        let cause = self.cause;
-        let tile = self.tile;
-        let level = self.level;
-        write!(f, "{number} {line} {cause} {tile} {level}")
+        write!(
+            f,
+            "{} {} {} {} {}",
+            self.number, self.line, self.cause, self.tile, self.level
+        )
+    }
+}
+
+impl fmt::Display for Fault {
+    ghost output = { λ fault. Some (written_fault fault) };
+
+    fn fmt<W: fmt::Write>(&self, f: &mut fmt::Formatter<W>) -> fmt::Result {
+        write!(f, "{} {} {}", self.cause, self.tile, self.level)
     }
 }
 

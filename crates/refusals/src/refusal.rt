@@ -3,7 +3,7 @@ use super::fault::Fault;
 /// Why a call on a lattice, a plate, a saved text or a rule was refused.
 ///
 /// A variant that holds a number holds the line of the text.
-#[derive(Clone, Copy)]
+#[derive(Clone, Copy, Debug, PartialEq, Eq)]
 pub enum Refusal {
     /// nothing is laid yet
     Bare,

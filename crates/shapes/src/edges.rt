@@ -1,32 +1,39 @@
-ghost use Rattle.std.specs.Prelude.{◌≡◌, ℕ, IfOk};
+ghost use Rattle.std.specs.Prelude.{◌≡◌, IfOk, Some};
+ghost use Rattle.std.specs.Option.{ok_or};
+ghost use Rattle.refusals.specs.declared.refusal.Refusal.TheVariants as refusal;
 ghost use Rattle.refusals.specs.Reported.{reported};
 ghost use Rattle.shapes.specs.Axis.{long_enough};
 ghost use Rattle.shapes.specs.Shape.{edge_of, edge_word, shaped, columns, rows, suited, Limited};
 
-use super::shape::{Axis, Edge, Shape};
+use super::shape::{Axis, Edge, Outline, Shape};
 use refusals::Refusal;
 use rules::Rule;
+use std::fmt;
+use std::str::FromStr;
 
-impl Edge {
+impl FromStr for Edge {
+    type Err = Refusal;
+
+    ghost from_str_gives = { λ word r. r ≡ ok_or (edge_of word) refusal.Shape };
+
     /// The edge that a word names.
-    pub fn from_word(word: &str) -> Option<Edge>
-        ensures { result ≡ edge_of word.now }
-    {
+    fn from_str(word: &str) -> Result<Edge, Refusal> {
         match word {
-            "wall" => Some(Edge::Wall),
-            "ring" => Some(Edge::Ring),
-            _ => None,
+            "wall" => Ok(Edge::Wall),
+            "ring" => Ok(Edge::Ring),
+            _ => Err(Refusal::Shape),
         }
     }
+}
 
-    /// The word that names the edge.
-    pub fn word(self) -> &'static str
-        ensures { result.now ≡ edge_word self }
-    {
-        match self {
+impl fmt::Display for Edge {
+    ghost output = { λ edge. Some (edge_word edge) };
+
+    fn fmt<W: fmt::Write>(&self, f: &mut fmt::Formatter<W>) -> fmt::Result {
+        f.write_str(match self {
             Edge::Wall => "wall",
             Edge::Ring => "ring",
-        }
+        })
     }
 }
 
@@ -43,28 +50,23 @@ impl Axis {
 }
 
 impl Shape {
-    /// The shape of these numbers and edge words, if a lattice may have it.
-    pub fn new(width: u32, height: u32, edgex: &str, edgey: &str) -> Result<Shape, Refusal>
-        ensures answers { reported (λ s. s) result ≡ shaped width height edgex.now edgey.now }
+    /// The shape of an outline, if a lattice may have it.
+    pub fn new(outline: Outline<'_>) -> Result<Shape, Refusal>
+        ensures answers { reported (λ s. s) result ≡ shaped outline.entry.width outline.entry.height outline.entry.edgex.now outline.entry.edgey.now }
         ensures limited { IfOk result Limited }
     {
+        let Outline { width, height, .. } = outline;
         if width < 1 || width > 65535 || height < 1 || height > 65535 {
             return Err(Refusal::Shape);
         }
         if width * height > 16777216 {
             return Err(Refusal::Shape);
         }
-        let Some(edgex) = Edge::from_word(edgex) else {
-            return Err(Refusal::Shape);
-        };
-        let Some(edgey) = Edge::from_word(edgey) else {
-            return Err(Refusal::Shape);
-        };
         Ok(Shape {
             width,
             height,
-            edgex,
-            edgey,
+            edgex: outline.edgex.parse()?,
+            edgey: outline.edgey.parse()?,
         })
     }
 

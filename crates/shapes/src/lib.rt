@@ -5,4 +5,4 @@ mod edges;
 mod place;
 mod shape;
 
-pub use shape::{Axis, Edge, Shape};
+pub use shape::{Axis, Edge, Outline, Shape};

@@ -8,11 +8,7 @@ use rules::wrap;
 fn inside(place: i64, n: u32) -> Option<u32>
     ensures { result ≡ inside n place }
 {
-    if 0 <= place && place < i64::from(n) {
-        Some(place as u32)
-    } else {
-        None
-    }
+    u32::try_from(place).ok().filter(|place| *place < n)
 }
 
 impl Axis {
