@@ -7,7 +7,7 @@ ghost use Rattle.sweep.specs.Plate.{plain_of};
 use super::Plate;
 use refusals::{Failure, Refusal};
 use rules::{Rule, all_within, count_code};
-use shapes::Shape;
+use shapes::{Outline, Shape};
 use std::alloc::Global;
 
 /// The most sweeps of one call.
@@ -26,18 +26,11 @@ fn overwrite(cells: &mut [u8], at: usize, codes: &[u8])
 
 impl<R: Rule + Drop> Plate<R> {
     /// A plate of this shape at step 0, with every cell 0.
-    pub fn new(
-        heap: Global,
-        rule: R,
-        width: u32,
-        height: u32,
-        edgex: &str,
-        edgey: &str,
-    ) -> Result<Plate<R>, Failure>
-        ensures answers { Answers plain_of result (laid (R.Rule.meaning rule) width height edgex.now edgey.now) }
+    pub fn new(heap: Global, rule: R, outline: Outline<'_>) -> Result<Plate<R>, Failure>
+        ensures answers { Answers plain_of result (laid (R.Rule.meaning rule) outline.entry.width outline.entry.height outline.entry.edgex.now outline.entry.edgey.now) }
         ensures rule { IfOk result (λ p. p.rule ≡ rule) }
     {
-        let shape = Shape::new(width, height, edgex, edgey)?;
+        let shape = Shape::new(outline)?;
         shape.suits(&rule)?;
         let area = shape.width as usize * shape.height as usize;
         let cells = vec![in heap; 0u8; area]?;
