@@ -1,7 +1,7 @@
 //! Reads a scenario on standard input and says in print what it did, command by command.
 #![tactic(auto)]
 
-use scenario::{Answer, Bench, BenchReply, Reply, rows_text};
+use scenario::{Answer, Bench, BenchReply, Done, rows_text};
 use std::io::{BufRead, BufReader};
 
 fn main(rt: HostRuntime) -> anyhow::Result<()> {
@@ -17,8 +17,8 @@ fn main(rt: HostRuntime) -> anyhow::Result<()> {
         let reply = bench.answer(heap, bytes.as_slice());
         let answer = Answer { line, reply };
         match reply {
-            BenchReply::Plates(Reply::Nothing) => {}
-            BenchReply::Plates(Reply::Swept(..)) => {
+            BenchReply::Plates(Ok(Done::Nothing)) => {}
+            BenchReply::Plates(Ok(Done::Swept { .. })) => {
                 println!(rt; "{answer}")?;
                 if let Some(plate) = bench.plate() {
                     let step = plate.step();
