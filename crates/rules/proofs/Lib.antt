@@ -1,2 +1,2 @@
 pub mod Within
-mod Counts
+mod Chains

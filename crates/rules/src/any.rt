@@ -8,6 +8,7 @@ use super::choice::AnyRule;
 use super::life::Life;
 use super::numbers::RuleNumbers;
 use super::rule::Rule;
+use super::site::Site;
 use super::vehicles::Vehicles;
 use std::fmt;
 
@@ -23,10 +24,10 @@ impl Rule for AnyRule {
         }
     }
 
-    fn next(&self, window: &[u8], t: u32, x: u32, y: u32, width: u32) -> u8 {
+    fn next(&self, window: &[u8], at: Site) -> u8 {
         match self {
-            AnyRule::Life(rule) => rule.next(window, t, x, y, width),
-            AnyRule::Vehicles(rule) => rule.next(window, t, x, y, width),
+            AnyRule::Life(rule) => rule.next(window, at),
+            AnyRule::Vehicles(rule) => rule.next(window, at),
         }
     }
 }
@@ -38,9 +39,7 @@ impl fmt::Display for AnyRule {
         match *self {
             AnyRule::Life(_) => f.write_str("life"),
             AnyRule::Vehicles(rule) => {
-                let a = rule.numbers().a;
-                let b = rule.numbers().b;
-                let c = rule.numbers().c;
+                let RuleNumbers { a, b, c, .. } = rule.numbers();
                 write!(f, "vehicles {a} {b} {c}")
             }
         }

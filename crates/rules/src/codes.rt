@@ -1,4 +1,4 @@
-ghost use Rattle.std.specs.Prelude.{◌≡◌, ℕ, ◌≤◌, length};
+ghost use Rattle.std.specs.Prelude.{◌≡◌, ◌≤◌, length};
 ghost use Rattle.rules.specs.Codes.{within, times};
 ghost use Rattle.rules.specs.Rule.{fits};
 
@@ -6,12 +6,7 @@ ghost use Rattle.rules.specs.Rule.{fits};
 pub fn all_within(codes: &[u8], top: u8) -> bool
     ensures { result ≡ within top codes.now }
 {
-    for code in codes {
-        if *code > top {
-            return false;
-        }
-    }
-    true
+    codes.iter().all(|code| *code <= top)
 }
 
 /// How many of the codes are this one.
@@ -19,6 +14,7 @@ pub fn count_code(codes: &[u8], wanted: u8) -> usize
     ensures is { result ≡ times wanted codes.now }
     ensures few { result ≤ length codes.now }
 {
+    // A loop, since `filter` and `count` make a sweep of Life a third slower.
     let mut count: usize = 0;
     for code in codes {
         if *code == wanted {
@@ -32,6 +28,6 @@ pub fn count_code(codes: &[u8], wanted: u8) -> usize
 pub fn window_fits(window: &[u8], rx: u8, ry: u8, top: u8) -> bool
     ensures { result ≡ fits rx ry top window.now }
 {
-    let length = (2 * rx as usize + 1) * (2 * ry as usize + 1);
+    let length = (2 * usize::from(rx) + 1) * (2 * usize::from(ry) + 1);
     window.len() == length && all_within(window, top)
 }

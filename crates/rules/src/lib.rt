@@ -8,6 +8,7 @@ mod life;
 mod numbers;
 mod ring;
 mod rule;
+mod site;
 mod vehicles;
 
 pub use choice::AnyRule;
@@ -16,4 +17,5 @@ pub use life::Life;
 pub use numbers::RuleNumbers;
 pub use ring::wrap;
 pub use rule::Rule;
+pub use site::Site;
 pub use vehicles::Vehicles;

@@ -5,6 +5,7 @@ ghost use Rattle.rules.specs.Lawful.{life_lawful};
 use super::codes::{count_code, window_fits};
 use super::numbers::RuleNumbers;
 use super::rule::Rule;
+use super::site::Site;
 
 /// Conway's Life: a cell lives where three of its eight neighbours do, or two and the cell itself.
 #[derive(Clone, Copy)]
@@ -48,7 +49,7 @@ impl Rule for Life {
         }
     }
 
-    fn next(&self, window: &[u8], t: u32, x: u32, y: u32, width: u32) -> u8 {
+    fn next(&self, window: &[u8], _at: Site) -> u8 {
         if window_fits(window, 1, 1, 1) {
             next_cell(window)
         } else {

@@ -1,4 +1,4 @@
-ghost use Rattle.std.specs.Prelude.{◌≡◌, ℕ, ◌+◌, ◌-◌, ◌*◌, ◌<◌, ◌≤◌, true, length};
+ghost use Rattle.std.specs.Prelude.{◌≡◌, ℕ, ◌+◌, ◌-◌, ◌*◌, ◌<◌, ◌≤◌, true, length, slice_index};
 ghost use Rattle.refusals.specs.Reported.{reported};
 ghost use Rattle.rules.specs.Rule.{fits};
 ghost use Rattle.rules.specs.Vehicles.{draw, gap, v2, v3, column_behind, arrives, arrival, vehicles_next, vehicles_made, Moved};
@@ -10,6 +10,7 @@ use crate::codes::window_fits;
 use crate::numbers::RuleNumbers;
 use crate::ring::wrap;
 use crate::rule::Rule;
+use crate::site::Site;
 use refusals::Refusal;
 
 // The draw at a step, a column and a row, below 65,536.
@@ -23,24 +24,15 @@ fn draw_at(c: u32, t: u32, x: u32, y: u32) -> u32
     u / 65536
 }
 
-// The empty cells directly ahead of place i, at most n.
-fn gap_ahead(w: &[u8], i: usize, n: usize) -> usize
-    requires { i + n < length w.now }
-    ensures { result ≡ gap w.now i n }
-{
-    for g in 0..n {
-        if w[i + g + 1] != 0 {
-            return g;
-        }
-    }
-    n
-}
-
-// The column d columns behind column x.
-fn column_behind(x: u32, width: u32, d: u8) -> u32
-    ensures { result ≡ column_behind x width d }
-{
-    wrap(i64::from(x) - i64::from(d), width)
+// The cell d columns behind the one that is updated, in a window of the rule's own length.
+#[derive(Clone, Copy)]
+struct Behind<'a> {
+    rule: Vehicles,
+    window: &'a [u8],
+    at: Site,
+    d: u8,
+    ghost whole: { length window.now ≡ 2 * rule.a + 1 },
+    ghost within_reach: { d ≤ rule.a },
 }
 
 impl Vehicles {
@@ -54,50 +46,89 @@ impl Vehicles {
         Ok(Vehicles { a: a as u8, b, c })
     }
 
-    // The speed before braking of the vehicle at place i.
-    fn free_speed(&self, w: &[u8], i: usize) -> u8
-        requires { i + self.now.a < length w.now }
-        ensures { result ≡ v2 self.now.a w.now i }
+    // Whether a vehicle stands d columns behind the cell at a site and lands on it.
+    fn lands(&self, window: &[u8], at: Site, d: u8) -> bool
+        requires whole { length window.now ≡ 2 * self.now.a + 1 }
+        requires within_reach { d ≤ self.now.a }
+        ensures { result ≡ arrives self.now.a self.now.b self.now.c window.now at.t at.x at.y at.width d }
     {
-        let top = self.a as usize;
-        let faster = (w[i].saturating_sub(1) as usize + 1).min(top);
-        faster.min(gap_ahead(w, i, top)) as u8
+        let behind = Behind {
+            rule: *self,
+            window,
+            at,
+            d,
+        };
+        behind.code() >= 1 && behind.speed() == d
     }
 
-    // The speed of the vehicle at place i, which stands in the given column.
-    fn speed(&self, w: &[u8], t: u32, column: u32, y: u32, i: usize) -> u8
-        requires { i + self.now.a < length w.now }
-        ensures { result ≡ v3 self.now.a self.now.b self.now.c w.now t column y i }
+    // The cell at a site after a step.
+    fn next_cell(&self, window: &[u8], at: Site) -> u8
+        requires { length window.now ≡ 2 * self.now.a + 1 }
+        ensures { result ≡ arrival self.now.a self.now.b self.now.c window.now at.t at.x at.y at.width 0 (self.now.a + 1) }
     {
-        let free = self.free_speed(w, i);
-        if free >= 1 && draw_at(self.c, t, column, y) < self.b {
+        (0..self.a + 1)
+            .find(|d| self.lands(window, at, *d))
+            .map_or(0, |d| 1 + d)
+    }
+}
+
+impl Behind<'_> {
+    // The cell's place in the window.
+    fn place(&self) -> usize
+        ensures { result ≡ self.now.rule.a - self.now.d }
+    {
+        usize::from(self.rule.a - self.d)
+    }
+
+    // The cell's code.
+    fn code(&self) -> u8
+        ensures { result ≡ slice_index self.now.window.now (self.now.rule.a - self.now.d) }
+    {
+        self.window[self.place()]
+    }
+
+    // The cell's column.
+    fn column(&self) -> u32
+        ensures { result ≡ column_behind self.now.at.x self.now.at.width self.now.d }
+    {
+        wrap(i64::from(self.at.x) - i64::from(self.d), self.at.width)
+    }
+
+    // The empty cells directly ahead, at most as many as the top speed.
+    fn gap_ahead(&self) -> usize
+        ensures { let v = self.now in result ≡ gap v.window.now (v.rule.a - v.d) v.rule.a }
+    {
+        let i = self.place();
+        let ahead = &self.window[i + 1..i + 1 + usize::from(self.rule.a)];
+        ahead.iter().take_while(|code| **code == 0).count()
+    }
+
+    // The speed before braking of the vehicle that stands there.
+    fn free_speed(&self) -> u8
+        ensures { let v = self.now in result ≡ v2 v.rule.a v.window.now (v.rule.a - v.d) }
+    {
+        let speed = usize::from(self.code().saturating_sub(1));
+        let faster = (speed + 1).min(usize::from(self.rule.a));
+        faster.min(self.gap_ahead()) as u8
+    }
+
+    // The draw at the vehicle's own column, below 65,536.
+    fn draw(&self) -> u32
+        ensures { let v = self.now in result ≡ draw v.rule.c v.at.t (column_behind v.at.x v.at.width v.d) v.at.y }
+    {
+        draw_at(self.rule.c, self.at.t, self.column(), self.at.y)
+    }
+
+    // The speed of the vehicle that stands there.
+    fn speed(&self) -> u8
+        ensures { let v = self.now in result ≡ v3 v.rule.a v.rule.b v.rule.c v.window.now v.at.t (column_behind v.at.x v.at.width v.d) v.at.y (v.rule.a - v.d) }
+    {
+        let free = self.free_speed();
+        if free >= 1 && self.draw() < self.rule.b {
             free - 1
         } else {
             free
         }
-    }
-
-    // Whether a vehicle stands d columns behind the cell and lands on it.
-    fn lands(&self, w: &[u8], t: u32, x: u32, y: u32, width: u32, d: u8) -> bool
-        requires whole_window { length w.now ≡ 2 * self.now.a + 1 }
-        requires within_reach { d ≤ self.now.a }
-        ensures { result ≡ arrives self.now.a self.now.b self.now.c w.now t x y width d }
-    {
-        let i = (self.a - d) as usize;
-        w[i] >= 1 && self.speed(w, t, column_behind(x, width, d), y, i) == d
-    }
-
-    // The cell after a step.
-    fn next_cell(&self, w: &[u8], t: u32, x: u32, y: u32, width: u32) -> u8
-        requires { length w.now ≡ 2 * self.now.a + 1 }
-        ensures { result ≡ arrival self.now.a self.now.b self.now.c w.now t x y width 0 (self.now.a + 1) }
-    {
-        for d in 0..self.a + 1 {
-            if self.lands(w, t, x, y, width, d) {
-                return 1 + d;
-            }
-        }
-        0
     }
 }
 
@@ -118,12 +149,12 @@ impl Rule for Vehicles {
         }
     }
 
-    fn next(&self, window: &[u8], t: u32, x: u32, y: u32, width: u32) -> u8
-        ensures is { result ≡ vehicles_next self.now.a self.now.b self.now.c window.now t x y width }
-        ensures moved { fits self.now.a 0 (self.now.a + 1) window.now ≡ true → Moved self.now.a self.now.b self.now.c window.now t x y width result }
+    fn next(&self, window: &[u8], at: Site) -> u8
+        ensures is { result ≡ vehicles_next self.now.a self.now.b self.now.c window.now at.t at.x at.y at.width }
+        ensures moved { fits self.now.a 0 (self.now.a + 1) window.now ≡ true → Moved self.now.a self.now.b self.now.c window.now at.t at.x at.y at.width result }
     {
         if window_fits(window, self.a, 0, self.a + 1) {
-            self.next_cell(window, t, x, y, width)
+            self.next_cell(window, at)
         } else {
             0
         }

@@ -4,7 +4,7 @@ ghost use Rattle.sweep.specs.Sweep.{cell_next, cell_at, swept};
 
 use super::Plate;
 use crate::window::{LARGEST, gather};
-use rules::Rule;
+use rules::{Rule, Site};
 use shapes::Shape;
 
 // One update: the code at step t+1 of the cell of an index.
@@ -18,7 +18,13 @@ fn update<R: Rule>(rule: &R, shape: Shape, t: u32, cells: &[u8], i: u32) -> u8
     let rows = shape.rows(rule);
     let mut window = [0u8; LARGEST];
     let length = gather(cells, shape, columns, rows, x, y, &mut window);
-    rule.next(&window[0..length], t, x, y, shape.width)
+    let at = Site {
+        t,
+        x,
+        y,
+        width: shape.width,
+    };
+    rule.next(&window[0..length], at)
 }
 
 // One sweep, from `cells` into `out`; answers its updates.
