@@ -1,24 +1,19 @@
 //! Reads a scenario on standard input and says in print what it did, command by command.
 #![tactic(auto)]
 
-use scenario::{Answer, Bench, BenchReply, Reply, rows_text};
+use scenario::{Answer, Bench, BenchReply, Done, rows_text};
 use std::io::{BufRead, BufReader};
 
 fn main(rt: HostRuntime) -> anyhow::Result<()> {
     let heap = rt.alloc();
-    let mut input = BufReader::new(heap, rt.stdin())?;
+    let input = BufReader::new(heap, rt.stdin())?;
     let mut bench = Bench::new();
-    let mut bytes = Vec::new(heap);
-    for line in 1..u64::MAX {
-        bytes.clear();
-        if input.read_until(b'\n', &mut bytes)? == 0 {
-            break;
-        }
-        let reply = bench.answer(heap, bytes.as_slice());
+    for (line, bytes) in (1..u64::MAX).zip(input.split(heap, b'\n')) {
+        let reply = bench.answer(heap, bytes?.as_slice());
         let answer = Answer { line, reply };
         match reply {
-            BenchReply::Plates(Reply::Nothing) => {}
-            BenchReply::Plates(Reply::Swept(..)) => {
+            BenchReply::Plates(Ok(Done::Nothing)) => {}
+            BenchReply::Plates(Ok(Done::Swept { .. })) => {
                 println!(rt; "{answer}")?;
                 if let Some(plate) = bench.plate() {
                     let step = plate.step();

@@ -41,15 +41,24 @@ store_asked_of store_command.Top = top_asked
 store_asked_of (store_command.Read k) = reading k
 store_asked_of (store_command.Write k v) = writing k v
 
+-- None: no command
+abbrev pub store_asked_if : Option StoreCommand → Asked
+store_asked_if (Some c) = store (store_asked_of c)
+store_asked_if None = unknown
+
 abbrev pub asked_of : Command → Asked
 asked_of command.Nothing = nothing
 asked_of command.Life = life
 asked_of (command.Vehicles a b c) = vehicles a b c
-asked_of (command.Plate w h ex ey) = plate w h ex.now ey.now
+asked_of (command.Plate o) = plate o.width o.height o.edgex.now o.edgey.now
 asked_of (command.Row y digits) = row y digits.now
 asked_of (command.Sweep n) = sweep n
 asked_of (command.Store c) = store (store_asked_of c)
-asked_of command.Unknown = unknown
+
+-- None: no command
+abbrev pub asked_if : Option Command → Asked
+asked_if (Some c) = asked_of c
+asked_if None = unknown
 
 -- a line's words as they are read: the word at each place, empty past the last
 abbrev pub word_at : List (Bor (List ℕ)) → ℕ → List ℕ

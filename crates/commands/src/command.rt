@@ -1,3 +1,5 @@
+use shapes::Outline;
+
 /// What a line of a scenario asks for.
 #[derive(Clone, Copy)]
 pub enum Command<'a> {
@@ -5,18 +7,23 @@ pub enum Command<'a> {
     Nothing,
     /// the rule is Life from here on
     Life,
-    /// the rule is vehicles of this top speed, brake and seed from here on
-    Vehicles(u32, u32, u32),
-    /// a new plate of this width, height and edges
-    Plate(u32, u32, &'a str, &'a str),
+    /// the rule is vehicles from here on
+    Vehicles {
+        top_speed: u32,
+        brake: u32,
+        seed: u32,
+    },
+    /// a new plate of this outline
+    Plate(Outline<'a>),
     /// a row, by its digits
-    Row(u32, &'a str),
+    Row {
+        number: u32,
+        digits: &'a str,
+    },
     /// so many plain sweeps
     Sweep(u32),
     /// a command for stores
     Store(StoreCommand<'a>),
-    /// no command
-    Unknown,
 }
 
 /// What a line asks of a store.

@@ -4,7 +4,6 @@
 mod command;
 mod number;
 mod read;
-mod stores;
 mod words;
 
 pub use command::{Command, StoreCommand};

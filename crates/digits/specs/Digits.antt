@@ -20,6 +20,10 @@ all_digits (b ∷ bs) = is_digit b && all_digits bs
 abbrev pub row_read : List ℕ → Option (List ℕ)
 row_read bs = cond (all_digits bs) (Some (map code_of bs)) None
 
+-- a row in print: its key, and its digits
+abbrev pub row_text : List ℕ → List ℕ
+row_text cells = codes "row=" ++ map digit cells
+
 -- a row in print: its key, its digits, and the end of the line
 abbrev pub row_line : List ℕ → List ℕ
 row_line cells = codes "row=" ++ (map digit cells ++ 10 ∷ [])

@@ -1,5 +1,5 @@
 -- A refused command changes nothing.
-use Rattle.std.proofs.Common.{◌≡◌, ℕ, Bool, true, false, cond, eqb, List, length, Some, None, Ok, Err, Option, Result, sym, refl, ap, ◌∙◌, arith}
+use Rattle.std.proofs.Common.{◌≡◌, ℕ, Bool, true, false, cond, eqb, List, length, Some, None, Ok, Err, Option, Result, sym, refl, ap, ◌∙◌}
 use Rattle.refusals.specs.declared.five.FiveNumbers.{FiveNumbers}
 use Rattle.rules.specs.Codes.{busy}
 use Rattle.rules.specs.Rule.{RuleMeaning}
@@ -10,23 +10,18 @@ use Rattle.sweep.specs.Plain.{Plain, laid, puts_row, sweeps_on}
 use Rattle.sweep.proofs.Calls.{puts_row_keeps, sweeps_keeps}
 use Rattle.commands.specs.Commands as command
 use Rattle.commands.specs.Commands.{Asked}
-use Rattle.scenario.specs.Sessions as session
-use Rattle.scenario.specs.Sessions.{State, fresh, ruled, plated, Said, refused, Outcome, ruling, plating, plating_in, rule_in, rowing, rowing_if, rowing_in, row_said, sweep_said, sweeping_in, obeyed, Obeys}
+use Rattle.scenario.specs.Sessions.{State, fresh, ruled, plated, Said, refused, Outcome, ruling, plating, plating_in, rule_in, rowing_if, rowing_in, row_said, sweep_said, sweeping_in, obeyed, Obeys}
 
 -- an outcome that is a refusal leaves the state s
 abbrev Keeps : State → Outcome → Type 0
 Keeps s o = (n : FiveNumbers) → o.said ≡ refused n → o.after ≡ s
 
--- the other replies are no refusals
-other : {A : Type 0} (n : FiveNumbers) (s : Said) → s ≡ refused n → (s ≡ refused n → ◌≡◌ {A = ℕ} 0 1) → A
-other n s e f = let z : ◌≡◌ {A = ℕ} 0 1 = f e in absurd (omega arith)
-
 ruling_keeps : (s : State) (m : Result RuleMeaning FiveNumbers) → Keeps s (ruling s m)
-ruling_keeps s (Ok r) n e = other n (session.rule_set r) e (λ e. cc)
+ruling_keeps s (Ok r) n e = cc
 ruling_keeps s (Err m) n e = refl
 
 plating_keeps : (r : RuleMeaning) (s : State) (m : Result Plain FiveNumbers) → Keeps s (plating r s m)
-plating_keeps r s (Ok p) n e = other n (session.plate_made p.shape) e (λ e. cc)
+plating_keeps r s (Ok p) n e = cc
 plating_keeps r s (Err m) n e = refl
 
 plating_in_keeps : (o : Option RuleMeaning) (s : State) (w h : ℕ) (ex ey : List ℕ) → Keeps s (plating_in o s w h ex ey)
@@ -34,7 +29,7 @@ plating_in_keeps None s w h ex ey n e = refl
 plating_in_keeps (Some r) s w h ex ey n e = plating_keeps r s (laid r w h ex ey) n e
 
 row_said_keeps : (r : RuleMeaning) (p q : Plain) (y : ℕ) (codes : List ℕ) (m : Result (Unit {0}) FiveNumbers) → ((n : FiveNumbers) → m ≡ Err n → q ≡ p) → Keeps (plated r p) (row_said r y codes m q)
-row_said_keeps r p q y codes (Ok u) h n e = other n (session.row_set y (length codes) (busy codes)) e (λ e. cc)
+row_said_keeps r p q y codes (Ok u) h n e = cc
 row_said_keeps r p q y codes (Err m) h n e = ap (plated r) (h m refl)
 
 keeps_if : (s : State) (b : Bool) (x y : Outcome) → Keeps s x → Keeps s y → Keeps s (cond b x y)
@@ -54,7 +49,7 @@ rowing_in_keeps (plated r p) y digits = go (row_read digits)
         (λ n e. refl)
 
 sweep_said_keeps : (r : RuleMeaning) (p q : Plain) (k before : ℕ) (m : Result ℕ FiveNumbers) → ((n : FiveNumbers) → m ≡ Err n → q ≡ p) → Keeps (plated r p) (sweep_said r k before m q)
-sweep_said_keeps r p q k before (Ok updates) h n e = other n (session.swept k updates before (busy q.cells)) e (λ e. cc)
+sweep_said_keeps r p q k before (Ok updates) h n e = cc
 sweep_said_keeps r p q k before (Err m) h n e = ap (plated r) (h m refl)
 
 sweeping_in_keeps : (s : State) (k : ℕ) → Keeps s (sweeping_in s k)

@@ -1,27 +1,46 @@
 -- The rows of a plate in print, one after the other.
-use Rattle.std.proofs.Common.{◌≡◌, ℕ, suc, ◌+◌, ◌-◌, ◌*◌, ◌<◌, ◌≤◌, List, [], ◌++◌, take, drop, sym, ap, ◌∙◌, ap₂, append_assoc, append-nil, add-mul, arith}
-use Rattle.std.proofs.lemmas.List.{drop-drop}
+use Rattle.std.proofs.Common.{◌≡◌, ℕ, zero, suc, ◌+◌, ◌*◌, ◌<◌, List, [], ◌++◌, length, take, drop, refl, sym, ap, ap₂, ◌∙◌, append_assoc, append-nil, arith}
+use Rattle.std.proofs.Math.Nat.{mul_comm}
+use Rattle.std.proofs.Math.Seq.{take-append_seam, drop-append_seam}
+use Rattle.std.proofs.lemmas.List.{length-append}
 use Rattle.digits.specs.Digits.{row_line, row_lines}
 
-module _ (w h : ℕ) (cells : List ℕ) where
-  pub rows_none : (text : List ℕ) → text ≡ [] → text ++ row_lines w (h - 0) (drop (0 * w) cells) ≡ row_lines w h cells
-  rows_none text e =
-      let a : h - 0 ≡ h = omega arith in
-      let b : 0 * w ≡ 0 = omega arith in
-      ap (λ t. t ++ row_lines w (h - 0) (drop (0 * w) cells)) e ∙ ap₂ (λ n k. row_lines w n (drop k cells)) a b
+-- the text so far, and the rows that are still to come
+pub record Left (w : ℕ) (rest text all : List ℕ) : Type 0 where
+  pub rows : ℕ
+  pub sized : length rest ≡ rows * w
+  pub written : text ++ row_lines w rows rest ≡ all
 
-  pub rows_more : (text next row all : List ℕ) (y : ℕ) → y < h → row ≡ take w (drop (y * w) cells) → next ≡ text ++ row_line row
-      → text ++ row_lines w (h - y) (drop (y * w) cells) ≡ all → next ++ row_lines w (h - (y + 1)) (drop ((y + 1) * w) cells) ≡ all
-  rows_more text next row all y l e n i =
-      let left : h - y ≡ suc (h - (y + 1)) = omega arith in
-      let on : (y + 1) * w ≡ y * w + w = omega (arith, add-mul y 1 w) in
-      ap (λ t. t ++ row_lines w (h - (y + 1)) (drop ((y + 1) * w) cells)) (n ∙ ap (λ r. text ++ row_line r) e)
-      ∙ append_assoc text (row_line (take w (drop (y * w) cells))) (row_lines w (h - (y + 1)) (drop ((y + 1) * w) cells))
-      ∙ ap (λ rest. text ++ (row_line (take w (drop (y * w) cells)) ++ row_lines w (h - (y + 1)) rest)) (ap (λ k. drop k cells) on ∙ sym (drop-drop w (y * w) cells))
-      ∙ ap (λ k. text ++ row_lines w k (drop (y * w) cells)) (sym left)
-      ∙ i
+pub none_yet : (w h : ℕ) (cells rest text : List ℕ) → rest ≡ cells → length cells ≡ w * h → text ≡ [] → Left w rest text (row_lines w h cells)
+none_yet w h cells rest text r e t = record { rows = h; sized = ap length r ∙ e ∙ mul_comm w h; written = rw (t, r) refl }
 
-  pub rows_all : (text all : List ℕ) (y : ℕ) → h ≤ y → text ++ row_lines w (h - y) (drop (y * w) cells) ≡ all → text ≡ all
-  rows_all text all y l i =
-      let none : h - y ≡ 0 = omega arith in
-      sym (append-nil text) ∙ ap (λ k. text ++ row_lines w k (drop (y * w) cells)) (sym none) ∙ i
+pub one_more : (w : ℕ) (rest next row text more all : List ℕ) → 0 < w → Left w rest text all → rest ≡ row ++ next → length row ≡ w → more ≡ text ++ row_line row → Left w next more all
+one_more w rest next row text more all some l cut size e = go l.rows l.sized l.written
+  where
+    long : length rest ≡ w + length next
+    long = ap length cut ∙ length-append row next ∙ ap (λ n. n + length next) size
+
+    taken : take w rest ≡ row
+    taken = rw (cut, ← size) (take-append_seam row next)
+
+    dropped : drop w rest ≡ next
+    dropped = rw (cut, ← size) (drop-append_seam row next)
+
+    go : (n : ℕ) → length rest ≡ n * w → text ++ row_lines w n rest ≡ all → Left w next more all
+    go zero s h = absurd (omega (arith, long, s))
+    go (suc n) s h = record {
+      rows = n;
+      sized = omega (arith, long, s);
+      written =
+          ap (λ t. t ++ row_lines w n next) e
+          ∙ append_assoc text (row_line row) (row_lines w n next)
+          ∙ ap₂ (λ a b. text ++ (row_line a ++ row_lines w n b)) (sym taken) (sym dropped)
+          ∙ h;
+    }
+
+pub no_more : (w : ℕ) (rest text all : List ℕ) → Left w rest text all → length rest < w → text ≡ all
+no_more w rest text all l few = go l.rows l.sized l.written
+  where
+    go : (n : ℕ) → length rest ≡ n * w → text ++ row_lines w n rest ≡ all → text ≡ all
+    go zero s h = sym (append-nil text) ∙ h
+    go (suc n) s h = absurd (omega (arith, s))

@@ -1,5 +1,5 @@
 -- What a bench does with a line of a scenario: plates and stores side by side.
-use Rattle.std.specs.Prelude.{◌≡◌, ℕ, ◌⊎◌, List, [], length, IsUtf8, slice_index_or}
+use Rattle.std.specs.Prelude.{◌≡◌, ℕ, ◌⊎◌, List, [], length, Err, Result, IsUtf8, slice_index_or}
 use Rattle.commands.specs.Commands as command
 use Rattle.commands.specs.Commands.{Asked, StoreAsked, command_of}
 use Rattle.commands.specs.Words.{Words}
@@ -8,8 +8,9 @@ use Rattle.desk.specs.Desks.{DeskState, desk_of, desk_said_of, store_takes_memor
 use Rattle.scenario.specs.declared.answer.BenchReply.{BenchReply}
 use Rattle.scenario.specs.declared.answer.BenchReply.TheVariants.{Plates, Stores}
 use Rattle.scenario.specs.declared.bench.Bench.{Bench}
-use Rattle.scenario.specs.declared.reply.Reply.{Reply}
-use Rattle.scenario.specs.declared.reply.Reply.TheVariants as reply
+use Rattle.scenario.specs.declared.done.Done.{Done}
+use Rattle.scenario.specs.declared.trouble.Trouble.{Trouble}
+use Rattle.scenario.specs.declared.trouble.Trouble.TheVariants as trouble
 use Rattle.scenario.specs.Sessions.{State, state_of, said_of, takes_memory, obeyed, Obeys}
 
 pub record BenchState : Type 0 where
@@ -21,7 +22,7 @@ bench_of b = record { plates = state_of b.plates; stores = desk_of b.stores }
 
 -- a command for plates was obeyed, and the store is as it was
 pub record PlatesObey (r : BenchReply) (before after : BenchState) (q : Asked) : Type 0 where
-  pub replied : Reply
+  pub replied : Result Done Trouble
   pub says : r ≡ Plates replied
   pub obeys : Obeys (takes_memory q) (said_of replied) before.plates after.plates (obeyed before.plates q)
   pub kept : after.stores ≡ before.stores
@@ -44,13 +45,13 @@ BenchObeys r before after (command.store q) = StoresObey r before after q
 BenchObeys r before after command.unknown = PlatesObey r before after command.unknown
 
 -- nothing was done: the line is no text, or there was no memory to read it
-pub record Idle (r : BenchReply) (before after : BenchState) (replied : Reply) : Type 0 where
+pub record Idle (r : BenchReply) (before after : BenchState) (replied : Result Done Trouble) : Type 0 where
   pub says : r ≡ Plates replied
   pub kept : after ≡ before
 
 -- a line is answered: it is no text and not understood, or its words are obeyed, or there was no memory to read it
 abbrev pub Answers : List ℕ → BenchReply → BenchState → BenchState → Type 0
 Answers line r before after =
-    ((IsUtf8 line → ⊥) × Idle r before after reply.NotUnderstood)
+    ((IsUtf8 line → ⊥) × Idle r before after (Err trouble.NotUnderstood))
     ⊎ (((ws : List (List ℕ)) × Words line ws × BenchObeys r before after (command_of (length ws) (λ i. slice_index_or ws i [])))
-    ⊎ Idle r before after reply.NoMemory)
+    ⊎ Idle r before after (Err trouble.NoMemory))

@@ -1,6 +1,8 @@
 -- What a scenario's commands do: what is said, and how far the scenario has come.
 use Rattle.std.specs.Prelude.{◌≡◌, ℕ, Bool, true, false, cond, List, length, Some, None, Ok, Err, Option, Result, ◌==◌}
 use Rattle.refusals.specs.declared.five.FiveNumbers.{FiveNumbers}
+use Rattle.refusals.specs.declared.failure.Failure.{Failure}
+use Rattle.refusals.specs.declared.failure.Failure.TheVariants as failure
 use Rattle.refusals.specs.declared.refusal.Refusal.TheVariants as refusal
 use Rattle.refusals.specs.Numbers.{numbers}
 use Rattle.rules.specs.Codes.{busy}
@@ -12,8 +14,10 @@ use Rattle.shapes.specs.declared.shape.Shape.{Shape}
 use Rattle.sweep.specs.Plain.{Plain, laid, puts_row, sweeps_on}
 use Rattle.sweep.specs.Plate.{plain_of, rule_of}
 use Rattle.digits.specs.Digits.{row_read}
-use Rattle.scenario.specs.declared.reply.Reply.{Reply}
-use Rattle.scenario.specs.declared.reply.Reply.TheVariants as reply
+use Rattle.scenario.specs.declared.done.Done.{Done}
+use Rattle.scenario.specs.declared.done.Done.TheVariants as done
+use Rattle.scenario.specs.declared.trouble.Trouble.{Trouble}
+use Rattle.scenario.specs.declared.trouble.Trouble.TheVariants as trouble
 use Rattle.scenario.specs.declared.session.Session.{Session}
 use Rattle.scenario.specs.declared.session.Session.TheVariants as session
 use Rattle.commands.specs.Commands as command
@@ -42,18 +46,23 @@ pub data Said : Type 0 where
   row_length : ℕ → ℕ → Said
   not_understood : Said
 
+-- why a call that takes memory failed
+abbrev pub trouble_of : Failure → Trouble
+trouble_of (failure.Refused r) = trouble.Refused r
+trouble_of failure.Memory = trouble.NoMemory
+
 -- None: there was not enough memory
-abbrev pub said_of : Reply → Option Said
-said_of reply.Nothing = Some nothing
-said_of (reply.Ruled r) = Some (rule_set (any_of r))
-said_of (reply.Plated s) = Some (plate_made s)
-said_of (reply.RowSet y cells b) = Some (row_set y cells b)
-said_of (reply.Swept n updates before after) = Some (swept n updates before after)
-said_of (reply.Refused n) = Some (refused n)
-said_of reply.NoRule = Some no_rule
-said_of (reply.RowLength cells columns) = Some (row_length cells columns)
-said_of reply.NotUnderstood = Some not_understood
-said_of reply.NoMemory = None
+abbrev pub said_of : Result Done Trouble → Option Said
+said_of (Ok done.Nothing) = Some nothing
+said_of (Ok (done.Ruled r)) = Some (rule_set (any_of r))
+said_of (Ok (done.Plated s)) = Some (plate_made s)
+said_of (Ok (done.RowSet y cells b)) = Some (row_set y cells b)
+said_of (Ok (done.Swept n updates before after)) = Some (swept n updates before after)
+said_of (Err (trouble.Refused r)) = Some (refused (numbers r))
+said_of (Err trouble.NoRule) = Some no_rule
+said_of (Err (trouble.RowLength cells columns)) = Some (row_length cells columns)
+said_of (Err trouble.NotUnderstood) = Some not_understood
+said_of (Err trouble.NoMemory) = None
 
 -- what a command says, and what it leaves
 pub record Outcome : Type 0 where

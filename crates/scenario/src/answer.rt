@@ -1,5 +1,9 @@
-use super::reply::Reply;
+use super::done::Done;
+use super::trouble::Trouble;
 use desk::DeskReply;
+
+/// What a command for plates was answered.
+pub type Reply = Result<Done, Trouble>;
 
 /// What a bench replies to a line.
 #[derive(Clone, Copy)]
@@ -10,7 +14,7 @@ pub enum BenchReply {
 
 /// A reply, and the line of the scenario that it answers.
 #[derive(Clone, Copy)]
-pub struct Answer {
+pub struct Answer<R> {
     pub line: u64,
-    pub reply: BenchReply,
+    pub reply: R,
 }

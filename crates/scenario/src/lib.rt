@@ -3,12 +3,15 @@
 
 mod answer;
 mod bench;
-mod reply;
+mod causes;
+mod done;
 mod rows;
 mod session;
 mod show;
+mod trouble;
 
-pub use answer::{Answer, BenchReply};
+pub use answer::{Answer, BenchReply, Reply};
 pub use bench::Bench;
-pub use reply::Reply;
+pub use done::Done;
 pub use rows::rows_text;
+pub use trouble::Trouble;

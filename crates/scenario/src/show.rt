@@ -1,61 +1,81 @@
-use super::answer::{Answer, BenchReply};
-use super::reply::Reply;
+ghost use Rattle.std.specs.Prelude.{Some};
+ghost use Rattle.scenario.specs.Written.{done_text, trouble_text, reply_text};
+
+use super::answer::{Answer, BenchReply, Reply};
+use super::done::Done;
+use super::trouble::Trouble;
 use desk::DeskReply;
+use refusals::FiveNumbers;
 use rules::Rule;
 use std::fmt;
 
-// A reply about plates, which may name the line.
-#[derive(Clone, Copy)]
-struct PlatesAnswer {
-    line: u64,
-    reply: Reply,
+impl fmt::Display for Done {
+    ghost output = { λ done. Some (done_text done) };
+
+    fn fmt<W: fmt::Write>(&self, f: &mut fmt::Formatter<W>) -> fmt::Result {
+        match self {
+            Done::Nothing => Ok(()),
+            Done::Ruled(rule) => {
+                let numbers = rule.numbers();
+                write!(
+                    f,
+                    "rule {rule}: reach {} and {}, codes 0 to {}",
+                    numbers.rx, numbers.ry, numbers.top
+                )
+            }
+            Done::Plated(shape) => write!(
+                f,
+                "plate {} {} {} {}: all cells empty",
+                shape.width, shape.height, shape.edgex, shape.edgey
+            ),
+            Done::RowSet {
+                number,
+                cells,
+                busy,
+            } => write!(f, "row {number}: {cells} cells, {busy} busy"),
+            Done::Swept {
+                steps,
+                updates,
+                before,
+                after,
+            } => write!(
+                f,
+                "swept {steps} steps, {updates} updates, busy {before} before, {after} after"
+            ),
+        }
+    }
 }
 
-// A reply about stores, which may name the line.
-#[derive(Clone, Copy)]
-struct StoresAnswer {
-    line: u64,
-    reply: DeskReply,
+impl fmt::Display for Trouble {
+    ghost output = { λ trouble. Some (trouble_text trouble) };
+
+    fn fmt<W: fmt::Write>(&self, f: &mut fmt::Formatter<W>) -> fmt::Result {
+        match self {
+            Trouble::Refused(refusal) => {
+                let numbers = FiveNumbers::from(*refusal);
+                write!(f, "refused {numbers}")
+            }
+            Trouble::NoRule => write!(f, "no rule yet"),
+            Trouble::RowLength { cells, columns } => write!(
+                f,
+                "a row of {cells} cells, and the plate has {columns} columns"
+            ),
+            Trouble::NotUnderstood => write!(f, "not understood"),
+            Trouble::NoMemory => write!(f, "not enough memory"),
+        }
+    }
 }
 
-impl fmt::Display for PlatesAnswer {
+// A refusal is told by its numbers, and any other trouble by the line.
+impl fmt::Display for Answer<Reply> {
+    ghost output = { λ answer. Some (reply_text answer.line answer.reply) };
+
     fn fmt<W: fmt::Write>(&self, f: &mut fmt::Formatter<W>) -> fmt::Result {
         let line = self.line;
         match self.reply {
-            Reply::Nothing => Ok(()),
-            Reply::Ruled(rule) => {
-                let columns = rule.numbers().rx;
-                let rows = rule.numbers().ry;
-                let top = rule.numbers().top;
-                write!(
-                    f,
-                    "rule {rule}: reach {columns} and {rows}, codes 0 to {top}"
-                )
-            }
-            Reply::Plated(shape) => {
-                let width = shape.width;
-                let height = shape.height;
-                let edgex = shape.edgex.word();
-                let edgey = shape.edgey.word();
-                write!(f, "plate {width} {height} {edgex} {edgey}: all cells empty")
-            }
-            Reply::RowSet(y, cells, busy) => write!(f, "row {y}: {cells} cells, {busy} busy"),
-            Reply::Swept(n, updates, before, after) => {
-                write!(
-                    f,
-                    "swept {n} steps, {updates} updates, busy {before} before, {after} after"
-                )
-            }
-            Reply::Refused(numbers) => write!(f, "refused {numbers}"),
-            Reply::NoRule => write!(f, "line {line}: no rule yet"),
-            Reply::RowLength(cells, columns) => {
-                write!(
-                    f,
-                    "line {line}: a row of {cells} cells, and the plate has {columns} columns"
-                )
-            }
-            Reply::NotUnderstood => write!(f, "line {line}: not understood"),
-            Reply::NoMemory => write!(f, "line {line}: not enough memory"),
+            Ok(done) => write!(f, "{done}"),
+            Err(refused @ Trouble::Refused(_)) => write!(f, "{refused}"),
+            Err(trouble) => write!(f, "line {line}: {trouble}"),
         }
     }
 }
@@ -75,7 +95,7 @@ impl fmt::Display for Bytes {
     }
 }
 
-impl fmt::Display for StoresAnswer {
+impl fmt::Display for Answer<DeskReply> {
     fn fmt<W: fmt::Write>(&self, f: &mut fmt::Formatter<W>) -> fmt::Result {
         let line = self.line;
         match self.reply {
@@ -96,12 +116,7 @@ impl fmt::Display for StoresAnswer {
                 write!(f, "tile {k} {bytes}")
             }
             DeskReply::Written(k) => write!(f, "written {k}"),
-            DeskReply::Faulted(fault) => {
-                let cause = fault.cause;
-                let tile = fault.tile;
-                let level = fault.level;
-                write!(f, "fault {cause} {tile} {level}")
-            }
+            DeskReply::Faulted(fault) => write!(f, "fault {fault}"),
             DeskReply::NoStore => write!(f, "line {line}: no store yet"),
             DeskReply::WindowTwice => write!(f, "line {line}: there is a window already"),
             DeskReply::TooManyTiles => write!(f, "line {line}: a store has at most 1048576 tiles"),
@@ -111,18 +126,12 @@ impl fmt::Display for StoresAnswer {
     }
 }
 
-impl fmt::Display for Answer {
+impl fmt::Display for Answer<BenchReply> {
     fn fmt<W: fmt::Write>(&self, f: &mut fmt::Formatter<W>) -> fmt::Result {
         let line = self.line;
         match self.reply {
-            BenchReply::Plates(reply) => {
-                let answer = PlatesAnswer { line, reply };
-                write!(f, "{answer}")
-            }
-            BenchReply::Stores(reply) => {
-                let answer = StoresAnswer { line, reply };
-                write!(f, "{answer}")
-            }
+            BenchReply::Plates(reply) => Answer { line, reply }.fmt(f),
+            BenchReply::Stores(reply) => Answer { line, reply }.fmt(f),
         }
     }
 }

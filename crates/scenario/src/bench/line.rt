@@ -1,16 +1,16 @@
-ghost use Rattle.std.specs.Prelude.{◌≡◌};
+ghost use Rattle.std.specs.Prelude.{◌≡◌, length};
 ghost use Rattle.std.specs.Option.{option_map};
 ghost use Rattle.rules.specs.Meant.{any_of};
 ghost use Rattle.sweep.specs.Plate.{plain_of, rule_of};
-ghost use Rattle.commands.specs.Commands.{asked_of};
+ghost use Rattle.commands.specs.Commands.{word_at, asked_of, command_of};
 ghost use Rattle.desk.specs.Desks.{empty};
 ghost use Rattle.scenario.specs.Sessions.{fresh, plated, plate_in};
 ghost use Rattle.scenario.specs.Benches.{bench_of, BenchObeys, Answers};
 
 use super::Bench;
 use crate::answer::BenchReply;
-use crate::reply::Reply;
 use crate::session::Session;
+use crate::trouble::Trouble;
 use commands::{Command, read_command, split_words};
 use desk::Desk;
 use rules::AnyRule;
@@ -39,17 +39,27 @@ impl Bench {
         }
     }
 
+    // Does what the words of a line ask for, if they are a command.
+    fn obey_words(&mut self, heap: Global, words: &[&str]) -> BenchReply
+        ensures { BenchObeys result (bench_of self.old) (bench_of self.new) (command_of (length words.now) (word_at words.now)) }
+    {
+        match read_command(words) {
+            Some(command) => self.obey(heap, command),
+            None => BenchReply::Plates(Err(Trouble::NotUnderstood)),
+        }
+    }
+
     /// Answers a line of a scenario.
     pub fn answer(&mut self, heap: Global, line: &[u8]) -> BenchReply
         ensures { Answers line.now result (bench_of self.old) (bench_of self.new) }
     {
         let Ok(text) = from_utf8(line) else {
-            return BenchReply::Plates(Reply::NotUnderstood);
+            return BenchReply::Plates(Err(Trouble::NotUnderstood));
         };
         let Ok(words) = split_words(heap, text) else {
-            return BenchReply::Plates(Reply::NoMemory);
+            return BenchReply::Plates(Err(Trouble::NoMemory));
         };
-        self.obey(heap, read_command(words.as_slice()))
+        self.obey_words(heap, words.as_slice())
     }
 
     /// The plate, if there is one.

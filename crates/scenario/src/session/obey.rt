@@ -9,11 +9,14 @@ ghost use Rattle.commands.specs.Commands.{asked_of};
 ghost use Rattle.scenario.specs.Sessions.{fresh, plated, state_of, said_of, refused, ruling, rule_in, plating_in, rowing, rowing_in, sweep_said, sweeping_in, plate_in, takes_memory, obeyed, Obeys};
 
 use super::Session;
-use crate::reply::Reply;
+use crate::answer::Reply;
+use crate::done::Done;
+use crate::trouble::Trouble;
 use commands::Command;
 use digits::read_row;
-use refusals::{Failure, Refusal};
-use rules::{AnyRule, Life, Rule, Vehicles, count_code};
+use refusals::Refusal;
+use rules::{AnyRule, Life, Vehicles, count_code};
+use shapes::Outline;
 use std::alloc::Global;
 use sweep::Plate;
 
@@ -21,14 +24,17 @@ use sweep::Plate;
 fn put_codes(plate: &mut Plate<AnyRule>, y: u32, codes: &[u8]) -> Reply
     ensures { Obeys false (said_of result) (plated (any_of (rule_of plate.old)) (plain_of plate.old)) (plated (any_of (rule_of plate.new)) (plain_of plate.new)) (rowing (any_of (rule_of plate.old)) (plain_of plate.old) y codes.now) }
 {
+    let cells = codes.len();
     let columns = plate.shape().width;
-    if codes.len() != columns as usize {
-        return Reply::RowLength(codes.len(), columns);
+    if cells != columns as usize {
+        return Err(Trouble::RowLength { cells, columns });
     }
-    match plate.put_row(y, codes) {
-        Ok(()) => Reply::RowSet(y, codes.len(), codes.len() - count_code(codes, 0)),
-        Err(refusal) => Reply::Refused(refusal.numbers()),
-    }
+    plate.put_row(y, codes)?;
+    Ok(Done::RowSet {
+        number: y,
+        cells,
+        busy: cells - count_code(codes, 0),
+    })
 }
 
 impl Session {
@@ -40,21 +46,19 @@ impl Session {
     }
 
     // A new rule; the plate of the old one is gone.
-    fn set_rule(&mut self, rule: AnyRule) -> Reply
-        ensures { Obeys false (said_of result) (state_of self.old) (state_of self.new) (ruling (state_of self.old) (Ok (any_of rule))) }
+    fn set_rule(&mut self, rule: AnyRule) -> Done
+        ensures { Obeys false (said_of (Ok result)) (state_of self.old) (state_of self.new) (ruling (state_of self.old) (Ok (any_of rule))) }
     {
         *self = Session::Ruled(rule);
-        Reply::Ruled(rule)
+        Done::Ruled(rule)
     }
 
     // Vehicles as the new rule.
-    fn set_vehicles(&mut self, a: u32, b: u32, c: u32) -> Reply
-        ensures { Obeys false (said_of result) (state_of self.old) (state_of self.new) (ruling (state_of self.old) (vehicles_made a b c)) }
+    fn set_vehicles(&mut self, top_speed: u32, brake: u32, seed: u32) -> Reply
+        ensures { Obeys false (said_of result) (state_of self.old) (state_of self.new) (ruling (state_of self.old) (vehicles_made top_speed brake seed)) }
     {
-        match Vehicles::new(a, b, c) {
-            Ok(rule) => self.set_rule(AnyRule::Vehicles(rule)),
-            Err(refusal) => Reply::Refused(refusal.numbers()),
-        }
+        let rule = Vehicles::new(top_speed, brake, seed)?;
+        Ok(self.set_rule(AnyRule::Vehicles(rule)))
     }
 
     // The rule, if there is one.
@@ -69,28 +73,14 @@ impl Session {
     }
 
     // A new plate.
-    fn set_plate(
-        &mut self,
-        heap: Global,
-        width: u32,
-        height: u32,
-        edgex: &str,
-        edgey: &str,
-    ) -> Reply
-        ensures { Obeys true (said_of result) (state_of self.old) (state_of self.new) (plating_in (rule_in (state_of self.old)) (state_of self.old) width height edgex.now edgey.now) }
+    fn set_plate(&mut self, heap: Global, outline: Outline<'_>) -> Reply
+        ensures { Obeys true (said_of result) (state_of self.old) (state_of self.new) (plating_in (rule_in (state_of self.old)) (state_of self.old) outline.entry.width outline.entry.height outline.entry.edgex.now outline.entry.edgey.now) }
     {
-        let Some(rule) = self.rule() else {
-            return Reply::NoRule;
-        };
-        match Plate::new(heap, rule, width, height, edgex, edgey) {
-            Ok(plate) => {
-                let shape = plate.shape();
-                *self = Session::Laid(plate);
-                Reply::Plated(shape)
-            }
-            Err(Failure::Refused(refusal)) => Reply::Refused(refusal.numbers()),
-            Err(Failure::Memory) => Reply::NoMemory,
-        }
+        let rule = self.rule().ok_or(Trouble::NoRule)?;
+        let plate = Plate::new(heap, rule, outline)?;
+        let shape = plate.shape();
+        *self = Session::Laid(plate);
+        Ok(Done::Plated(shape))
     }
 
     // The codes of a row, as digits, put into the plate.
@@ -98,13 +88,10 @@ impl Session {
         ensures { Obeys true (said_of result) (state_of self.old) (state_of self.new) (rowing_in (state_of self.old) y digits.now) }
     {
         let Session::Laid(plate) = self else {
-            return Reply::Refused(Refusal::Bare.numbers());
+            return Err(Trouble::Refused(Refusal::Bare));
         };
-        match read_row(heap, digits.as_bytes()) {
-            Ok(Some(codes)) => put_codes(plate, y, codes.as_slice()),
-            Ok(None) => Reply::NotUnderstood,
-            Err(_) => Reply::NoMemory,
-        }
+        let codes = read_row(heap, digits.as_bytes())?.ok_or(Trouble::NotUnderstood)?;
+        put_codes(plate, y, codes.as_slice())
     }
 
     // So many sweeps of the plate.
@@ -112,13 +99,16 @@ impl Session {
         ensures { Obeys false (said_of result) (state_of self.old) (state_of self.new) (sweeping_in (state_of self.old) n) }
     {
         let Session::Laid(plate) = self else {
-            return Reply::Refused(Refusal::Bare.numbers());
+            return Err(Trouble::Refused(Refusal::Bare));
         };
         let before = plate.busy();
-        match plate.sweep(n) {
-            Ok(updates) => Reply::Swept(n, updates, before, plate.busy()),
-            Err(refusal) => Reply::Refused(refusal.numbers()),
-        }
+        let updates = plate.sweep(n)?;
+        Ok(Done::Swept {
+            steps: n,
+            updates,
+            before,
+            after: plate.busy(),
+        })
     }
 
     // Does what a command asks for.
@@ -126,16 +116,17 @@ impl Session {
         ensures { Obeys (takes_memory (asked_of command.entry)) (said_of result) (state_of self.old) (state_of self.new) (obeyed (state_of self.old) (asked_of command.entry)) }
     {
         match command {
-            Command::Nothing => Reply::Nothing,
-            Command::Life => self.set_rule(AnyRule::Life(Life)),
-            Command::Vehicles(a, b, c) => self.set_vehicles(a, b, c),
-            Command::Plate(width, height, edgex, edgey) => self.set_plate(
-                heap, width, height, edgex, edgey,
-            ),
-            Command::Row(y, digits) => self.set_row(heap, y, digits),
+            Command::Nothing => Ok(Done::Nothing),
+            Command::Life => Ok(self.set_rule(AnyRule::Life(Life))),
+            Command::Vehicles {
+                top_speed,
+                brake,
+                seed,
+            } => self.set_vehicles(top_speed, brake, seed),
+            Command::Plate(outline) => self.set_plate(heap, outline),
+            Command::Row { number, digits } => self.set_row(heap, number, digits),
             Command::Sweep(n) => self.sweep(n),
-            Command::Store(_) => Reply::Nothing,
-            Command::Unknown => Reply::NotUnderstood,
+            Command::Store(_) => Ok(Done::Nothing),
         }
     }
 

@@ -1,13 +1,17 @@
-use Rattle.std.proofs.Common.{codes, ◌∙◌}
-use Rattle.commands.specs.Commands.{word_at}
-use Rattle.commands.proofs.Choosing.{passes}
+use Rattle.std.proofs.Common.{arith}
+use Rattle.commands.proofs.Choosing.{chosen}
+use Rattle.commands.proofs.read.read_verb.Goals.{in_default-via-then-words-lt2, in_default-via-else-words-lt2+then-words-lt3+in-rule+in_default, in_default-via-else-words-lt2+then-words-lt3+in_default, in_default-via-else-words-lt2+else-words-lt3+then-words-lt4+in_default, in_default-via-else-words-lt2+else-words-lt3+else-words-lt4+then-words-lt5, in_default-via-else-words-lt2+else-words-lt3+else-words-lt4+else-words-lt5+then-words-lt6+in-rule+in_default, in_default-via-else-words-lt2+else-words-lt3+else-words-lt4+else-words-lt5+then-words-lt6+in_default, in_default-via-else-words-lt2+else-words-lt3+else-words-lt4+else-words-lt5+else-words-lt6}
 use Rattle.commands.proofs.read.read_verb.Goals as goal
 
-pub returns-in_default : goal.returns-in_default
-returns-in_default c =
-    let is = c.word_at.ensures in
-    passes (word_at c.args.words.now 0) (codes "rule") _ _ _ (λ e. c.in_default.not-rule (is ∙ e))
-    (passes (word_at c.args.words.now 0) (codes "plate") _ _ _ (λ e. c.in_default.not-plate (is ∙ e))
-    (passes (word_at c.args.words.now 0) (codes "row") _ _ _ (λ e. c.in_default.not-row (is ∙ e))
-    (passes (word_at c.args.words.now 0) (codes "sweep") _ _ _ (λ e. c.in_default.not-sweep (is ∙ e))
-    c.read_store_verb.ensures)))
+pub returns-in_err-read_store_command-in_default : goal.returns-in_err-read_store_command-in_default
+returns-in_err-read_store_command-in_default c =
+    elim c.in_default.branch [
+      | in_default-via-then-words-lt2 w ↦ grind (arith, chosen)
+      | in_default-via-else-words-lt2+then-words-lt3+in-rule+in_default w ↦ grind (arith, chosen)
+      | in_default-via-else-words-lt2+then-words-lt3+in_default w ↦ grind (arith, chosen)
+      | in_default-via-else-words-lt2+else-words-lt3+then-words-lt4+in_default w ↦ grind (arith, chosen)
+      | in_default-via-else-words-lt2+else-words-lt3+else-words-lt4+then-words-lt5 w ↦ grind (arith, chosen)
+      | in_default-via-else-words-lt2+else-words-lt3+else-words-lt4+else-words-lt5+then-words-lt6+in-rule+in_default w ↦ grind (arith, chosen)
+      | in_default-via-else-words-lt2+else-words-lt3+else-words-lt4+else-words-lt5+then-words-lt6+in_default w ↦ grind (arith, chosen)
+      | in_default-via-else-words-lt2+else-words-lt3+else-words-lt4+else-words-lt5+else-words-lt6 w ↦ grind (arith, chosen)
+    ]

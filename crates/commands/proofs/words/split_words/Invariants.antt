@@ -1,7 +1,0 @@
-use Rattle.std.proofs.Common.{map, vec_items}
-use Rattle.std.specs.Str.Iter.{split_whitespace_rest}
-use Rattle.commands.proofs.Splits.{Sofar}
-use Rattle.commands.proofs.words.split_words.Given as goal
-
-abbrev pub invariant-loop-word : goal.invariant-loop-word
-invariant-loop-word l = Sofar l.line (split_whitespace_rest l.word-iterator) (map (λ w. w.now) (vec_items l.words))

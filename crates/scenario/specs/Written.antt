@@ -1,0 +1,45 @@
+-- What is printed for a command.
+use Rattle.std.specs.Prelude.{ℕ, List, [], ◌++◌, Ok, Err, Result, codes, decimal}
+use Rattle.refusals.specs.Numbers.{numbers}
+use Rattle.refusals.specs.Written as refusals
+use Rattle.rules.specs.Meant.{any_of}
+use Rattle.rules.specs.Rule.{RuleMeaning}
+use Rattle.rules.specs.Written as rules
+use Rattle.shapes.specs.Shape.{edge_word}
+use Rattle.scenario.specs.declared.done.Done.{Done}
+use Rattle.scenario.specs.declared.done.Done.TheVariants as done
+use Rattle.scenario.specs.declared.trouble.Trouble.{Trouble}
+use Rattle.scenario.specs.declared.trouble.Trouble.TheVariants as trouble
+
+-- the reach and the top of a rule
+abbrev pub limits_text : RuleMeaning → List ℕ
+limits_text r = codes ": reach " ++ (decimal r.rx ++ (codes " and " ++ (decimal r.ry ++ (codes ", codes 0 to " ++ decimal r.top))))
+
+-- what was done
+abbrev pub done_text : Done → List ℕ
+done_text done.Nothing = []
+done_text (done.Ruled r) = codes "rule " ++ (rules.written r ++ limits_text (any_of r))
+done_text (done.Plated s) = codes "plate " ++ (decimal s.width ++ (codes " " ++ (decimal s.height ++ (codes " " ++ (edge_word s.edgex ++ (codes " " ++ (edge_word s.edgey ++ codes ": all cells empty")))))))
+done_text (done.RowSet y cells busy) = codes "row " ++ (decimal y ++ (codes ": " ++ (decimal cells ++ (codes " cells, " ++ (decimal busy ++ codes " busy")))))
+done_text (done.Swept n updates before after) = codes "swept " ++ (decimal n ++ (codes " steps, " ++ (decimal updates ++ (codes " updates, busy " ++ (decimal before ++ (codes " before, " ++ (decimal after ++ codes " after")))))))
+
+-- why it was not done
+abbrev pub trouble_text : Trouble → List ℕ
+trouble_text (trouble.Refused r) = codes "refused " ++ refusals.written (numbers r)
+trouble_text trouble.NoRule = codes "no rule yet"
+trouble_text (trouble.RowLength cells columns) = codes "a row of " ++ (decimal cells ++ (codes " cells, and the plate has " ++ (decimal columns ++ codes " columns")))
+trouble_text trouble.NotUnderstood = codes "not understood"
+trouble_text trouble.NoMemory = codes "not enough memory"
+
+-- a text behind the number of its line
+abbrev pub line_text : ℕ → List ℕ → List ℕ
+line_text line text = codes "line " ++ (decimal line ++ (codes ": " ++ text))
+
+-- a refusal is told by its numbers, and any other trouble with its line
+abbrev pub reply_text : ℕ → Result Done Trouble → List ℕ
+reply_text line (Ok d) = done_text d
+reply_text line (Err (trouble.Refused r)) = trouble_text (trouble.Refused r)
+reply_text line (Err trouble.NoRule) = line_text line (trouble_text trouble.NoRule)
+reply_text line (Err (trouble.RowLength cells columns)) = line_text line (trouble_text (trouble.RowLength cells columns))
+reply_text line (Err trouble.NotUnderstood) = line_text line (trouble_text trouble.NotUnderstood)
+reply_text line (Err trouble.NoMemory) = line_text line (trouble_text trouble.NoMemory)
