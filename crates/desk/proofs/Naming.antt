@@ -1,11 +1,15 @@
 -- Words that name tiles, one after the other.
-use Rattle.std.proofs.Common.{◌≡◌, ℕ, ◌+◌, ◌*◌, ◌<◌, ◌≤◌, true, false, List, [], ◌∷◌, map, length, get_or, drop, replicate, sym, refl, ap, ◌∙◌, ap₂, Bor}
+use Rattle.std.proofs.Common.{◌≡◌, ℕ, ◌+◌, ◌*◌, ◌<◌, ◌≤◌, Bool, true, ◌&&◌, List, [], ◌∷◌, map, length, get_or, drop, replicate, Some, false, Option, sym, refl, ap, ◌∙◌, ap₂, Bor}
 use Rattle.std.proofs.lemmas.List.{drop_more, drop_all, length-map}
 use Rattle.std.proofs.lemmas.Bool.{le-leb}
 use Rattle.stores.specs.Layouts.{image, card_layout}
+use Rattle.std.specs.List.{list_all}
 use Rattle.commands.specs.Commands.{card}
 use Rattle.desk.specs.Cards.{worn_fits, all_fit, marked_one, marked}
-use Rattle.desk.specs.Desks.{DeskState, plain, card_made, desk_outcome, desk_obeyed}
+use Rattle.stores.specs.Meaning.{Store}
+use Rattle.piles.specs.declared.choice.Pile.{Pile}
+use Rattle.piles.specs.Piles.{pile_of, is_windowed}
+use Rattle.desk.specs.Desks.{DeskState, DeskSaid, plain, bad_worn, card_made, desk_outcome, desk_obeyed, seen, seen_if, on_store, Called, DeskObeys}
 
 abbrev texts : List (Bor (List ℕ)) → List (List ℕ)
 texts ws = map (λ w. w.now) ws
@@ -16,18 +20,15 @@ texts_more ws i d l = ap texts (drop_more ws i d l)
 texts_all : (ws : List (Bor (List ℕ))) (i : ℕ) → length ws ≤ i → texts (drop i ws) ≡ []
 texts_all ws i l = ap texts (drop_all i ws l)
 
+-- the words, and the texts behind them
+pub fit_texts : (n : ℕ) (ws : List (Bor (List ℕ))) → list_all (λ w. worn_fits n w.now) ws ≡ all_fit n (texts ws)
+fit_texts n [] = refl
+fit_texts n (w ∷ ws) = ap (λ b. worn_fits n w.now && b) (fit_texts n ws)
+
 module _ (n : ℕ) (ws : List (Bor (List ℕ))) where
-  pub fit_more : (i : ℕ) (d : Bor (List ℕ)) → i < length ws → true ≡ worn_fits n (get_or ws i d).now → all_fit n (texts (drop i ws)) ≡ all_fit n (texts (drop (i + 1) ws))
-  fit_more i d l f = ap (all_fit n) (texts_more ws i d l) ∙ rw (sym f) refl
-
-  pub fit_fails : (i : ℕ) (d : Bor (List ℕ)) → i < length ws → false ≡ worn_fits n (get_or ws i d).now → all_fit n (texts (drop i ws)) ≡ false
-  fit_fails i d l f = ap (all_fit n) (texts_more ws i d l) ∙ rw (sym f) refl
-
-  pub fit_all : (i : ℕ) → length ws ≤ i → all_fit n (texts (drop i ws)) ≡ true
-  fit_all i l = ap (all_fit n) (texts_all ws i l)
-
-  pub marked_more : (memory next : List ℕ) (i : ℕ) (d : Bor (List ℕ)) → i < length ws → next ≡ marked_one n memory (get_or ws i d).now → marked n memory (texts (drop i ws)) ≡ marked n next (texts (drop (i + 1) ws))
-  marked_more memory next i d l e = ap (marked n memory) (texts_more ws i d l) ∙ ap (λ m. marked n m (texts (drop (i + 1) ws))) (sym e)
+  pub marked_more : (start memory next : List ℕ) (tiles i : ℕ) (d : Bor (List ℕ)) → i < length ws → tiles ≡ n → next ≡ marked_one tiles memory (get_or ws i d).now
+      → start ≡ marked n memory (texts (drop i ws)) → start ≡ marked n next (texts (drop (i + 1) ws))
+  marked_more start memory next tiles i d l t e s = s ∙ ap (marked n memory) (texts_more ws i d l) ∙ ap (λ m. marked n m (texts (drop (i + 1) ws))) (sym (e ∙ ap (λ z. marked_one z memory (get_or ws i d).now) t))
 
   pub marked_all : (memory : List ℕ) (i : ℕ) → length ws ≤ i → marked n memory (texts (drop i ws)) ≡ memory
   marked_all memory i l = ap (marked n memory) (texts_all ws i l)
@@ -38,3 +39,16 @@ pub card_is : (d : DeskState) (n : ℕ) (ws : List (Bor (List ℕ))) (memory : L
 card_is d n ws memory l f e =
     ap₂ (λ k m. desk_outcome (card_made n k) (plain (image card_layout m))) (sym (length-map ws (λ w. w.now))) e
     ∙ rw (le-leb n 1048576 l, f) refl
+
+-- and one of whose words one names no tile is refused
+pub bad_words : (d : DeskState) (n : ℕ) (ws : List (Bor (List ℕ))) → n ≤ 1048576 → all_fit n (texts ws) ≡ false → desk_outcome bad_worn d ≡ desk_obeyed d (card n (texts ws))
+bad_words d n ws l f = rw (le-leb n 1048576 l, f) refl
+
+-- a call on the store, which stays as it was seen
+pub called_obeys : (p p' : Pile) (said : Option DeskSaid) (defined : Store → DeskSaid) (left : Store → Store) → is_windowed p' ≡ is_windowed p → Called said (pile_of p') (defined (pile_of p)) (left (pile_of p))
+    → DeskObeys false said (seen_if (Some p)) (seen_if (Some p')) (on_store (seen_if (Some p)) defined left)
+called_obeys p p' said defined left kind called = rw (called.says, kind, called.leaves) (by_kind (is_windowed p) (pile_of p))
+  where
+    by_kind : (w : Bool) (s : Store) → desk_outcome (defined s) (seen w (left s)) ≡ on_store (seen w s) defined left
+    by_kind true s = refl
+    by_kind false s = refl

@@ -1,6 +1,12 @@
 -- The memory of a card image some of whose tiles are worn.
-use Rattle.std.specs.Prelude.{ℕ, ◌*◌, Bool, true, false, cond, ◌&&◌, List, [], ◌∷◌, Some, None, Option, nat_lt, slice_set}
+use Rattle.std.specs.Prelude.{ℕ, ◌*◌, Bool, false, cond, List, [], ◌∷◌, Some, None, Option, nat_lt, slice_set}
+use Rattle.std.specs.List.{list_all}
 use Rattle.commands.specs.Numerals.{numeral}
+
+-- a number below n
+abbrev pub named : ℕ → Option ℕ → Option ℕ
+named n (Some k) = cond (nat_lt k n) (Some k) None
+named n None = None
 
 abbrev pub below : ℕ → Option ℕ → Bool
 below n (Some k) = nat_lt k n
@@ -11,8 +17,7 @@ abbrev pub worn_fits : ℕ → List ℕ → Bool
 worn_fits n word = below n (numeral word)
 
 abbrev pub all_fit : ℕ → List (List ℕ) → Bool
-all_fit n [] = true
-all_fit n (w ∷ ws) = worn_fits n w && all_fit n ws
+all_fit n words = list_all (worn_fits n) words
 
 -- the mark of tile k is byte 65×k
 abbrev pub mark_at : ℕ → List ℕ → Option ℕ → List ℕ

@@ -4,13 +4,14 @@ use Rattle.refusals.specs.declared.fault.Fault.{Fault}
 use Rattle.stores.specs.Meaning.{Store, count, tile_of, read, write, store_after}
 use Rattle.stores.specs.Layers as layers
 use Rattle.stores.specs.Layouts.{image, plain_layout, card_layout, bits_layout}
-use Rattle.stores.specs.Stores.{of_window}
-use Rattle.piles.specs.Piles.{any_store_of}
+use Rattle.piles.specs.declared.choice.Pile.{Pile}
+use Rattle.piles.specs.Piles.{pile_of, is_windowed}
 use Rattle.commands.specs.Commands.{StoreAsked, memory, card, bits, window, count_asked, top_asked, reading, writing}
 use Rattle.desk.specs.declared.desk.Desk.{Desk}
-use Rattle.desk.specs.declared.desk.Desk.TheVariants as desk
-use Rattle.desk.specs.declared.reply.DeskReply.{DeskReply}
-use Rattle.desk.specs.declared.reply.DeskReply.TheVariants as reply
+use Rattle.desk.specs.declared.done.DeskDone.{DeskDone}
+use Rattle.desk.specs.declared.done.DeskDone.TheVariants as done
+use Rattle.desk.specs.declared.trouble.DeskTrouble.{DeskTrouble}
+use Rattle.desk.specs.declared.trouble.DeskTrouble.TheVariants as trouble
 use Rattle.desk.specs.Cards.{all_fit, marked}
 
 -- no store yet, a store, or a store seen through a window
@@ -19,10 +20,17 @@ pub data DeskState : Type 0 where
   plain : Store → DeskState
   windowed : Store → DeskState
 
+-- a store as it is seen, through a window or not
+abbrev pub seen : Bool → Store → DeskState
+seen true s = windowed s
+seen false s = plain s
+
+abbrev pub seen_if : Option Pile → DeskState
+seen_if None = empty
+seen_if (Some p) = seen (is_windowed p) (pile_of p)
+
 abbrev pub desk_of : Desk → DeskState
-desk_of desk.Empty = empty
-desk_of (desk.Plain s) = plain (any_store_of s)
-desk_of (desk.Windowed w) = windowed (of_window any_store_of w)
+desk_of d = seen_if d.store
 
 -- what is said of a command
 pub data DeskSaid : Type 0 where
@@ -40,22 +48,25 @@ pub data DeskSaid : Type 0 where
   too_many : DeskSaid
   bad_worn : DeskSaid
 
+abbrev pub done_said : DeskDone → DeskSaid
+done_said (done.MemoryMade n) = memory_made n
+done_said (done.CardMade n worn) = card_made n worn
+done_said (done.BitsMade n) = bits_made n
+done_said (done.WindowMade s m) = window_made s m
+done_said (done.Count n) = counted n
+done_said (done.Top n) = topped n
+done_said (done.Tile k bytes) = tile k bytes
+done_said (done.Written k) = tile_written k
+
 -- None: there was not enough memory
-abbrev pub desk_said_of : DeskReply → Option DeskSaid
-desk_said_of (reply.MemoryMade n) = Some (memory_made n)
-desk_said_of (reply.CardMade n worn) = Some (card_made n worn)
-desk_said_of (reply.BitsMade n) = Some (bits_made n)
-desk_said_of (reply.WindowMade s m) = Some (window_made s m)
-desk_said_of (reply.Count n) = Some (counted n)
-desk_said_of (reply.Top n) = Some (topped n)
-desk_said_of (reply.Tile k bytes) = Some (tile k bytes)
-desk_said_of (reply.Written k) = Some (tile_written k)
-desk_said_of (reply.Faulted f) = Some (faulted f)
-desk_said_of reply.NoStore = Some no_store
-desk_said_of reply.WindowTwice = Some window_twice
-desk_said_of reply.TooManyTiles = Some too_many
-desk_said_of reply.BadWorn = Some bad_worn
-desk_said_of reply.NoMemory = None
+abbrev pub desk_said_of : Result DeskDone DeskTrouble → Option DeskSaid
+desk_said_of (Ok d) = Some (done_said d)
+desk_said_of (Err (trouble.Faulted f)) = Some (faulted f)
+desk_said_of (Err trouble.NoStore) = Some no_store
+desk_said_of (Err trouble.WindowTwice) = Some window_twice
+desk_said_of (Err trouble.TooManyTiles) = Some too_many
+desk_said_of (Err trouble.BadWorn) = Some bad_worn
+desk_said_of (Err trouble.NoMemory) = None
 
 -- what a command says, and what it leaves
 pub record DeskOutcome : Type 0 where

@@ -1,42 +1,70 @@
-ghost use Rattle.std.specs.Prelude.{◌≡◌, ◌*◌, ◌≤◌, map, length, replicate, IfOk};
-ghost use Rattle.desk.specs.Cards.{worn_fits, all_fit, marked_one, marked};
+ghost use Rattle.std.specs.Prelude.{◌≡◌, ◌*◌, ◌≤◌, map, replicate, IfOk, vec_len};
+ghost use Rattle.std.specs.List.{list_all};
+ghost use Rattle.desk.specs.Cards.{named, worn_fits, marked_one, marked};
+ghost use Rattle.commands.specs.Numerals.{numeral};
 
 use commands::read_number;
 use std::alloc::{AllocError, Global};
 
-// Whether a word is the number of a tile below n.
+// The tile below n that a word names.
+fn tile_named(word: &str, n: u32) -> Option<u32>
+    ensures { result ≡ named n (numeral word.now) }
+{
+    read_number(word).filter(|k| *k < n)
+}
+
+// Whether a word names a tile below n.
 fn names_tile(word: &str, n: u32) -> bool
     ensures { result ≡ worn_fits n word.now }
 {
-    match read_number(word) {
-        Some(k) => k < n,
-        None => false,
-    }
-}
-
-// A card's memory with the mark of one tile set, if the word names a tile.
-fn mark(memory: &mut [u8], n: u32, word: &str)
-    requires card_sized { length memory.old ≡ 65 * n }
-    requires few_tiles { n ≤ 1048576 }
-    ensures { memory.new ≡ marked_one n memory.old word.now }
-{
-    if let Some(k) = read_number(word) {
-        if k < n {
-            memory[65 * k as usize] = 1;
-        }
-    }
+    tile_named(word, n).is_some()
 }
 
 // Whether every word names a tile below n.
 pub(crate) fn all_name_tiles(words: &[&str], n: u32) -> bool
-    ensures { result ≡ all_fit n (map (λ w. w.now) words.now) }
+    ensures { result ≡ list_all (λ w. worn_fits n w.now) words.now }
 {
-    for word in words {
-        if !names_tile(word, n) {
-            return false;
+    words.iter().all(|word| names_tile(word, n))
+}
+
+// The memory of a card image, while its marks are set.
+#[derive(Drop)]
+struct CardMemory {
+    tiles: u32,
+    bytes: Vec<u8>,
+    ghost few: { tiles ≤ 1048576 },
+    ghost sized: { vec_len bytes ≡ 65 * tiles },
+}
+
+impl CardMemory {
+    // Memory of n tiles, all of mark 0.
+    fn new(heap: Global, n: u32) -> Result<CardMemory, AllocError>
+        requires { n ≤ 1048576 }
+        ensures tiles { IfOk result (λ c. c.tiles ≡ n) }
+        ensures zeros { IfOk result (λ c. c.bytes.items ≡ replicate (65 * n) 0) }
+    {
+        let bytes = vec![in heap; 0u8; 65 * n as usize]?;
+        Ok(CardMemory { tiles: n, bytes })
+    }
+
+    // Sets the mark of the tile that the word names, if it names one.
+    fn mark(&mut self, word: &str)
+        ensures tiles { self.new.tiles ≡ self.old.tiles }
+        ensures marks { self.new.bytes.items ≡ marked_one self.old.tiles self.old.bytes.items word.now }
+    {
+        if let Some(k) = tile_named(word, self.tiles) {
+            self.bytes[65 * k as usize] = 1;
         }
     }
-    true
+
+    // Sets the marks of the tiles that the words name.
+    fn mark_all(&mut self, worn: &[&str])
+        ensures { self.new.bytes.items ≡ marked self.old.tiles self.old.bytes.items (map (λ w. w.now) worn.now) }
+    {
+        for word in worn {
+            self.mark(word);
+        }
+    }
 }
 
 // The memory of a card image of n tiles, with the marks of the named ones set.
@@ -44,18 +72,8 @@ pub(crate) fn card_memory(heap: Global, n: u32, worn: &[&str]) -> Result<Vec<u8>
     requires { n ≤ 1048576 }
     ensures { IfOk result (λ v. v.items ≡ marked n (replicate (65 * n) 0) (map (λ w. w.now) worn.now)) }
 {
-    let mut memory = vec![in heap; 0u8; 65 * n as usize]?;
-    mark_all(memory.as_mut_slice(), n, worn);
-    Ok(memory)
-}
-
-// Sets the marks of the named tiles.
-fn mark_all(memory: &mut [u8], n: u32, worn: &[&str])
-    requires card_sized { length memory.old ≡ 65 * n }
-    requires few_tiles { n ≤ 1048576 }
-    ensures { memory.new ≡ marked n memory.old (map (λ w. w.now) worn.now) }
-{
-    for word in worn {
-        mark(memory, n, word);
-    }
+    let mut card = CardMemory::new(heap, n)?;
+    card.mark_all(worn);
+    let CardMemory { tiles: _, bytes } = card;
+    Ok(bytes)
 }

@@ -1,12 +1,9 @@
-use piles::AnyStore;
-use stores::Window;
+use piles::Pile;
 
 mod obey;
 
-/// The store of a scenario: none yet, a store, or a window over a store.
+/// The store of a scenario, with a window over it or not, if there is one yet.
 #[derive(Drop)]
-pub enum Desk {
-    Empty,
-    Plain(AnyStore),
-    Windowed(Window<AnyStore>),
+pub struct Desk {
+    store: Option<Pile>,
 }

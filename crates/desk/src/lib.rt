@@ -2,9 +2,13 @@
 #![tactic(auto)]
 
 mod card;
+mod causes;
 mod desk;
-mod reply;
+mod done;
+mod show;
 mod tiles;
+mod trouble;
 
 pub use desk::Desk;
-pub use reply::DeskReply;
+pub use done::DeskDone;
+pub use trouble::DeskTrouble;

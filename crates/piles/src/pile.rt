@@ -1,4 +1,6 @@
-ghost use Rattle.piles.specs.Piles.{pile_of};
+ghost use Rattle.std.specs.Prelude.{◌≡◌};
+ghost use Rattle.stores.specs.Meaning.{ReadAs, WrittenAs};
+ghost use Rattle.piles.specs.Piles.{pile_of, is_windowed};
 ghost use Rattle.piles.specs.Lawful.{pile_lawful};
 
 use super::choice::Pile;
@@ -24,14 +26,20 @@ impl TileStore for Pile {
         }
     }
 
-    fn read(&mut self, k: u32, out: &mut [u8; 64]) -> Result<(), Fault> {
+    fn read(&mut self, k: u32, out: &mut [u8; 64]) -> Result<(), Fault>
+        ensures does { ReadAs (pile_of self.old) k out.old result out.new (pile_of self.new) }
+        ensures kind { is_windowed self.new ≡ is_windowed self.old }
+    {
         match self {
             Pile::Plain(store) => store.read(k, out),
             Pile::Windowed(store) => store.read(k, out),
         }
     }
 
-    fn write(&mut self, k: u32, bytes: &[u8; 64]) -> Result<(), Fault> {
+    fn write(&mut self, k: u32, bytes: &[u8; 64]) -> Result<(), Fault>
+        ensures does { WrittenAs (pile_of self.old) k bytes.now result (pile_of self.new) }
+        ensures kind { is_windowed self.new ≡ is_windowed self.old }
+    {
         match self {
             Pile::Plain(store) => store.write(k, bytes),
             Pile::Windowed(store) => store.write(k, bytes),

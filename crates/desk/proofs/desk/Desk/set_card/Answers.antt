@@ -1,10 +1,15 @@
 use Rattle.std.proofs.Common.{vec_items, sym, ap, ◌∙◌}
 use Rattle.desk.specs.Desks.{desk_of}
-use Rattle.desk.proofs.Naming.{card_is}
+use Rattle.desk.proofs.Naming.{fit_texts, card_is, bad_words}
 use Rattle.desk.proofs.desk.Desk.set_card.Goals as goal
 
-pub returns-in-Ok : goal.returns-in-Ok
-returns-in-Ok c =
-    card_is (desk_of c.args.self.now) c.args.n c.args.worn.now (vec_items c.new.result.memory) c.if-n-gt-MOST_TILES.false
-    (sym c.if-not-all_name_tiles.ensures)
-    (ap vec_items c.new.ensures ∙ c.in-Ok.ensures)
+pub returns-then-not-all_name_tiles : goal.returns-then-not-all_name_tiles
+returns-then-not-all_name_tiles c =
+    bad_words (desk_of c.args.self.now) c.args.n c.args.worn.now c.in_ok-check_tiles.ensures
+    (sym (c.if-not-all_name_tiles.ensures ∙ fit_texts c.args.n c.args.worn.now))
+
+pub returns : goal.returns
+returns c =
+    card_is (desk_of c.args.self.now) c.args.n c.args.worn.now (vec_items c.new.result.memory) c.in_ok-check_tiles.ensures
+    (sym (c.if-not-all_name_tiles.ensures ∙ fit_texts c.args.n c.args.worn.now))
+    (ap vec_items c.new.ensures ∙ c.in_ok-bytes.ensures)

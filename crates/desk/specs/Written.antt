@@ -1,0 +1,27 @@
+-- What is printed for a command for stores.
+use Rattle.std.specs.Prelude.{ℕ, List, ◌++◌, Some, None, Option, codes, decimal}
+use Rattle.refusals.specs.Written.{written_fault}
+use Rattle.desk.specs.declared.done.DeskDone.{DeskDone}
+use Rattle.desk.specs.declared.done.DeskDone.TheVariants as done
+use Rattle.desk.specs.declared.trouble.DeskTrouble.{DeskTrouble}
+use Rattle.desk.specs.declared.trouble.DeskTrouble.TheVariants as trouble
+
+-- what was done; None: of the bytes of a tile in print nothing is said here
+abbrev pub done_text : DeskDone → Option (List ℕ)
+done_text (done.MemoryMade n) = Some (codes "store memory: " ++ (decimal n ++ codes " tiles"))
+done_text (done.CardMade n worn) = Some (codes "store card: " ++ (decimal n ++ (codes " tiles, " ++ (decimal worn ++ codes " named as worn"))))
+done_text (done.BitsMade n) = Some (codes "store bits: " ++ (decimal n ++ codes " tiles"))
+done_text (done.WindowMade s m) = Some (codes "window: " ++ (decimal m ++ (codes " tiles from tile " ++ (decimal s ++ codes " on"))))
+done_text (done.Count n) = Some (codes "count " ++ decimal n)
+done_text (done.Top n) = Some (codes "top " ++ decimal n)
+done_text (done.Tile k bytes) = None
+done_text (done.Written k) = Some (codes "written " ++ decimal k)
+
+-- why it was not done
+abbrev pub trouble_text : DeskTrouble → List ℕ
+trouble_text (trouble.Faulted f) = codes "fault " ++ written_fault f
+trouble_text trouble.NoStore = codes "no store yet"
+trouble_text trouble.WindowTwice = codes "there is a window already"
+trouble_text trouble.TooManyTiles = codes "a store has at most 1048576 tiles"
+trouble_text trouble.BadWorn = codes "a worn tile is a number below the count"
+trouble_text trouble.NoMemory = codes "not enough memory"
