@@ -96,11 +96,6 @@ pub record WrittenAs (s : Store) (k : ℕ) (bytes : List ℕ) (r : Result (Unit 
   -- tile k has these bytes if the write was accepted, and nothing else has changed
   pub after : s' ≡ store_after r s k bytes
 
--- what a call does, and that it keeps what its making set up
-pub record Done (Intact Does : Type 0) : Type 0 where
-  pub stays : Intact
-  pub does : Does
-
 -- an access to the tiles of a store
 pub data Access : Type 0 where
   reading : ℕ → Access

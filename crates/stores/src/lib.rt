@@ -10,6 +10,6 @@ mod tile_store;
 mod window;
 
 pub use image::{Bits, Card, Image, Memory};
-pub use refuse::{ABOVE_TOP, PAST_COUNT, WORN, above_top, any_above, past_count, raised};
+pub use refuse::{ABOVE_TOP, PAST_COUNT, WORN, any_above, fault, raised};
 pub use tile_store::TileStore;
 pub use window::Window;

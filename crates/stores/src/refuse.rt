@@ -1,6 +1,6 @@
 ghost use Rattle.std.specs.Prelude.{◌≡◌};
 ghost use Rattle.stores.specs.Layers.{passed_on};
-ghost use Rattle.stores.specs.Meaning.{past, worn, above, any_above};
+ghost use Rattle.stores.specs.Meaning.{any_above};
 
 use refusals::Fault;
 
@@ -13,40 +13,18 @@ pub const WORN: u8 = 11;
 /// The cause of a fault: a byte to write is above the top.
 pub const ABOVE_TOP: u8 = 12;
 
-// The refusal of a tile number at or past the count.
-pub fn past_count(k: u32) -> Fault
-    ensures { result ≡ past k }
+/// The fault of tile k by this cause, which no layer has passed on yet.
+pub fn fault(cause: u8, k: u32) -> Fault
+    ensures { result ≡ record { cause = cause; tile = k; level = 0 } }
 {
     Fault {
-        cause: PAST_COUNT,
+        cause,
         tile: k,
         level: 0,
     }
 }
 
-// The fault of a worn tile.
-pub(crate) fn worn_out(k: u32) -> Fault
-    ensures { result ≡ worn k }
-{
-    Fault {
-        cause: WORN,
-        tile: k,
-        level: 0,
-    }
-}
-
-// The refusal of bytes of which one is above the top.
-pub fn above_top(k: u32) -> Fault
-    ensures { result ≡ above k }
-{
-    Fault {
-        cause: ABOVE_TOP,
-        tile: k,
-        level: 0,
-    }
-}
-
-// What a layer passes on of what the store below it answered: a fault goes one level up.
+/// What a layer passes on of what the store below it answered: a fault goes one level up.
 pub fn raised(answer: Result<(), Fault>) -> Result<(), Fault>
     ensures { result ≡ passed_on answer }
 {
@@ -57,7 +35,7 @@ pub fn raised(answer: Result<(), Fault>) -> Result<(), Fault>
     })
 }
 
-// Whether a byte is above the top.
+/// Whether a byte is above the top.
 pub fn any_above(bytes: &[u8; 64], top: u8) -> bool
     ensures { result ≡ any_above top bytes.now }
 {

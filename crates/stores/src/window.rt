@@ -5,7 +5,7 @@ ghost use Rattle.stores.specs.Stacks.{WindowsStack};
 ghost use Rattle.stores.specs.Stores.{of_window};
 ghost use Rattle.stores.specs.Windows.{window_lawful};
 
-use super::refuse::{above_top, any_above, past_count, raised};
+use super::refuse::{ABOVE_TOP, PAST_COUNT, any_above, fault, raised};
 use super::tile_store::TileStore;
 use refusals::Fault;
 
@@ -70,7 +70,7 @@ impl<S: TileStore> TileStore for Window<S> {
         ensures most { self.new.most ≡ self.old.most }
     {
         if k >= self.count() {
-            return Err(past_count(k));
+            return Err(fault(PAST_COUNT, k));
         }
         raised(self.below.read(self.first.saturating_add(k), out))?;
         Ok(())
@@ -84,10 +84,10 @@ impl<S: TileStore> TileStore for Window<S> {
         ensures most { self.new.most ≡ self.old.most }
     {
         if k >= self.count() {
-            return Err(past_count(k));
+            return Err(fault(PAST_COUNT, k));
         }
         if any_above(bytes, self.top()) {
-            return Err(above_top(k));
+            return Err(fault(ABOVE_TOP, k));
         }
         raised(self.below.write(self.first.saturating_add(k), bytes))?;
         Ok(())

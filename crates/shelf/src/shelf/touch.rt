@@ -7,7 +7,7 @@ ghost use Rattle.shelf.specs.Shelf.{Did, Does, above_refused};
 use super::Shelf;
 use refusals::Fault;
 use shelves::Entry;
-use stores::{TileStore, above_top, past_count, raised};
+use stores::{ABOVE_TOP, PAST_COUNT, TileStore, fault, raised};
 
 // Writes an entry to the store below, if it was changed.
 pub(crate) fn write_back<S: TileStore>(below: &mut S, entry: &Entry)
@@ -40,7 +40,7 @@ impl<S: TileStore> Shelf<S> {
         ensures { result ≡ above_refused (S.meaning self.now.below) k above }
     {
         if above && k < self.below.count() {
-            Err(above_top(k))
+            Err(fault(ABOVE_TOP, k))
         } else {
             Ok(())
         }
@@ -68,7 +68,7 @@ impl<S: TileStore> Shelf<S> {
         ensures { Does self.old self.new (λ h. touch_accesses h k) (λ h h'. TouchedAs h k result h') }
     {
         if k >= self.below.count() {
-            return Err(past_count(k));
+            return Err(fault(PAST_COUNT, k));
         }
         let mut bytes = [0; 64];
         raised(self.below.read(k, &mut bytes))?;

@@ -7,7 +7,7 @@ ghost use Rattle.stores.specs.Images.{image_lawful};
 use super::Image;
 use crate::layout::Layout;
 use crate::raw::{are_bytes, whole_tiles};
-use crate::refuse::{above_top, any_above, past_count};
+use crate::refuse::{ABOVE_TOP, PAST_COUNT, any_above, fault};
 use crate::tile_store::TileStore;
 use refusals::Fault;
 use std::marker::PhantomData;
@@ -39,7 +39,7 @@ impl<L: Layout> Image<L> {
         if k < self.count() {
             Ok(k as usize * L::SIZE)
         } else {
-            Err(past_count(k))
+            Err(fault(PAST_COUNT, k))
         }
     }
 }
@@ -76,7 +76,7 @@ impl<L: Layout> TileStore for Image<L> {
     {
         let to = self.start(k)?;
         if any_above(bytes, L::TOP) {
-            return Err(above_top(k));
+            return Err(fault(ABOVE_TOP, k));
         }
         L::check(k, self.memory[to])?;
         L::pack(bytes, &mut self.memory[to + L::SKIP..to + L::SIZE]);

@@ -2,7 +2,7 @@ ghost use Rattle.stores.specs.Layouts.{card_layout};
 ghost use Rattle.stores.specs.LayoutsLemmas.{card_sound, card_told};
 
 use super::Layout;
-use crate::refuse::worn_out;
+use crate::refuse::{WORN, fault};
 use refusals::Fault;
 
 /// 65 bytes a tile, of which the first is its mark, top 255; a tile whose mark is not 0 is worn.
@@ -35,7 +35,7 @@ impl Layout for Marked {
         if first == SOUND {
             Ok(())
         } else {
-            Err(worn_out(k))
+            Err(fault(WORN, k))
         }
     }
 

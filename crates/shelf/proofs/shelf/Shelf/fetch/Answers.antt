@@ -13,7 +13,7 @@ pub returns-then-k-count : goal.returns-then-k-count
 returns-then-k-count g c =
     let h = shelved c.args.self.now in
     let l = g.met.S.TileStore.lawful c.args.self.now.below in
-    let e = ap Err c.past_count.ensures in
+    let e = ap Err c.fault.ensures in
     let past = rw c.count.ensures at c.if-k-count.true in
     touch_done h c.args.k l c.args.self.now.kept (past_reaches g.S.TileStore.steps _ h c.args.k c.requires past) _ h (e ∙ refused-past h.list h.below c.args.k l past) (sym (ap (λ z. touched_if z h c.args.k) e))
 

@@ -14,7 +14,7 @@ pub returns-then-any_above-clause-does : goal.returns-then-any_above-clause-does
 returns-then-any_above-clause-does g c =
     let top = c.TOP.ensures ∙ g.met.L.Layout.told.top_told in
     let high = sym (c.if-any_above.ensures ∙ ap (λ t. any_above t c.args.bytes.now) top) in
-    image-write-above g.L.Layout.form (vec_items c.args.self.now.memory) c.args.k _ _ c.in_ok-to.ensures.1 high (ap Err c.above_top.ensures)
+    image-write-above g.L.Layout.form (vec_items c.args.self.now.memory) c.args.k _ _ c.in_ok-to.ensures.1 high (ap Err c.fault.ensures)
 
 pub returns-in_err-check-clause-does : goal.returns-in_err-check-clause-does
 returns-in_err-check-clause-does g c =
