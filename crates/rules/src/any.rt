@@ -1,4 +1,4 @@
-ghost use Rattle.std.specs.Prelude.{◌≡◌, Some};
+ghost use Rattle.std.specs.Prelude.{Some};
 ghost use Rattle.rules.specs.Meant.{any_of};
 ghost use Rattle.rules.specs.Written.{written};
 ghost use Rattle.rules.specs.Lawful.{vehicles_lawful, life_lawful};

@@ -1,7 +1,7 @@
 /// The numbers that a rule tells, of which none ever changes.
 #[derive(Clone, Copy)]
 pub struct RuleNumbers {
-    /// the rule's own number, 1 to 65,535
+    /// the rule's own number, 1 to 65,535; no enum, since a maker's own rule has a number of its own
     pub id: u16,
     /// three numbers of the rule's choice
     pub a: u32,

@@ -70,6 +70,7 @@ impl Shape {
         })
     }
 
+    // Two functions, since each reads fields of its own: one of both would still name all six.
     /// The column axis, as the rule sees it.
     pub fn columns<R: Rule>(&self, rule: &R) -> Axis
         ensures { result ≡ columns (R.Rule.meaning rule.now) self.now }

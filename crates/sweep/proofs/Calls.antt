@@ -1,17 +1,12 @@
--- What a call does, once its tests have passed, and what a refused one leaves.
-use Rattle.std.proofs.Common.{◌≡◌, ℕ, ◌+◌, ◌*◌, ◌<◌, ◌≤◌, Bool, true, false, cond, ◌&&◌, leb, List, ◌++◌, length, take, drop, Err, refl, arith}
+-- What a refused call leaves.
+use Rattle.std.proofs.Common.{◌≡◌, ℕ, ◌+◌, ◌*◌, Bool, true, false, cond, ◌&&◌, leb, List, Err, refl, arith}
 use Rattle.refusals.specs.declared.five.FiveNumbers.{FiveNumbers}
 use Rattle.refusals.specs.declared.refusal.Refusal.TheVariants.{Steps}
-use Rattle.std.proofs.lemmas.Bool.{le-leb, lt-ltb}
 use Rattle.rules.specs.Codes.{within}
 use Rattle.rules.specs.Rule.{RuleMeaning}
 use Rattle.shapes.specs.Shape.{area}
 use Rattle.sweep.specs.Sweep.{sweeps}
-use Rattle.sweep.specs.Plain.{Plain, Out, accepted, refused, with_cells, puts_row, sweeps_on}
-
-pub puts_row_lem : (r : RuleMeaning) (p : Plain) (y : ℕ) (codes : List ℕ) → y < p.shape.height → length codes ≤ p.shape.width → within r.top codes ≡ true
-    → puts_row r p y codes ≡ accepted (with_cells p (take (y * p.shape.width) p.cells ++ (codes ++ drop (y * p.shape.width + length codes) p.cells))) tt
-puts_row_lem r p y codes a b e = rw (lt-ltb y p.shape.height a, le-leb (length codes) p.shape.width b, e) refl
+use Rattle.sweep.specs.Plain.{Plain, Out, accepted, refused, puts_row, sweeps_on}
 
 -- a call that refuses leaves the lattice p
 abbrev pub Keeps : {A : Type 0} → Plain → Out A → Type 0

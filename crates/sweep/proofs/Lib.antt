@@ -1,4 +1,3 @@
 mod Gathers
 pub mod Low
-mod Sweeping
 pub mod Calls

@@ -1,8 +1,9 @@
 -- A sweep of cells whose codes are at most the rule's top leaves such cells: every window fits its rule.
-use Rattle.std.proofs.Common.{◌≡◌, ℕ, zero, suc, ◌+◌, ◌*◌, ◌≤◌, true, List, [], ◌∷◌, ◌++◌, map, length, Some, None, Option, refl, ap, ◌∙◌, mul_comm, arith}
+use Rattle.std.proofs.Common.{◌≡◌, ℕ, zero, suc, ◌+◌, ◌*◌, ◌≤◌, true, List, [], ◌∷◌, ◌++◌, map, length, nat_le, Some, None, Option, refl, ap, ◌∙◌, mul_comm, arith}
 use Rattle.std.specs.List.{range_with_len, flat_map}
-use Rattle.std.proofs.lemmas.List.{length-append, length-map}
+use Rattle.std.proofs.lemmas.List.{length-append}
 use Rattle.std.proofs.lemmas.Bool.{le-leb, eq-eqb}
+use Rattle.std.proofs.lemmas.List.Folds.{list_all-append}
 use Rattle.rules.specs.Codes.{within}
 use Rattle.rules.specs.Rule.{RuleMeaning, LawfulRule, fitting, window_length}
 use Rattle.rules.proofs.Within.{within_at}
@@ -12,16 +13,14 @@ use Rattle.shapes.specs.Axis.{place, offsets}
 use Rattle.shapes.specs.Shape.{columns, rows, area}
 use Rattle.sweep.specs.Sweep.{cell_of, cell_at, cell_next, index, swept, sweeps}
 use Rattle.sweep.specs.Window.{Cell, code, window_row, window}
-use Rattle.sweep.proofs.Gathers.{offsets-length}
+use Rattle.sweep.proofs.Gathers.{offsets-length, row-length}
 
 within-map : {A : Type 0} (top : ℕ) (f : A → ℕ) (l : List A) → ((a : A) → f a ≤ top) → within top (map f l) ≡ true
 within-map top f [] h = refl
 within-map top f (a ∷ l) h = rw (le-leb (f a) top (h a)) (within-map top f l h)
 
 within-append : (top : ℕ) (v w : List ℕ) → within top v ≡ true → within top w ≡ true → within top (v ++ w) ≡ true
-within-append top [] w p q = q
-within-append top (c ∷ v) w p q =
-    rw (le-leb c top (within_at top (c ∷ v) p 0)) (within-append top v w (rw (le-leb c top (within_at top (c ∷ v) p 0)) at p) q)
+within-append top v w p q = rw (list_all-append (λ c. nat_le c top) v w, p, q) refl
 
 within_joined : {A : Type 0} (top : ℕ) (f : A → List ℕ) (l : List A) → ((a : A) → within top (f a) ≡ true) → within top (flat_map f l) ≡ true
 within_joined top f [] h = refl
@@ -40,7 +39,7 @@ code_low top g None v h = omega arith
 pub window-length : (x y : Axis) (g : Cell → ℕ) (c : Cell) → length (window x y g c) ≡ window_length x.reach y.reach
 window-length x y g c =
     length_joined (λ j. window_row x g c.0 (place y c.1 j)) (offsets y.reach) (2 * x.reach + 1)
-    (λ j. length-map (offsets x.reach) (λ i. code g (place x c.0 i) (place y c.1 j)) ∙ offsets-length x.reach)
+    (λ j. row-length x g c.0 (place y c.1 j))
     ∙ ap (λ n. n * (2 * x.reach + 1)) (offsets-length y.reach)
     ∙ mul_comm (2 * y.reach + 1) (2 * x.reach + 1)
 

@@ -8,7 +8,7 @@ use Rattle.rules.specs.Codes.{within}
 use Rattle.rules.specs.Rule.{RuleMeaning}
 use Rattle.shapes.specs.declared.shape.Shape.{Shape}
 use Rattle.shapes.specs.Shape.{area, shaped, suited}
-use Rattle.sweep.specs.Sweep.{index, cell_of, sweeps}
+use Rattle.sweep.specs.Sweep.{index, cell_of, swept, sweeps}
 
 -- the shape, the step, and the codes of the cells by index
 pub record Plain : Type 0 where
@@ -77,6 +77,10 @@ puts_row r p y codes =
 -- the codes of row y: 26 a row outside
 abbrev pub row_of : Plain → ℕ → Result (List ℕ) FiveNumbers
 row_of p y = cond (nat_lt y p.shape.height) (Ok (take p.shape.width (drop (y * p.shape.width) p.cells))) (refuse Outside)
+
+-- one plain sweep, which updates every cell
+abbrev pub swept_once : RuleMeaning → Plain → Out ℕ
+swept_once r p = accepted (record { shape = p.shape; step = p.step + 1; cells = swept r p.shape p.step p.cells }) (area p.shape)
 
 -- n plain sweeps, which make n×width×height updates: 28 if n is above 1,024 or the step would pass 2,147,483,647
 abbrev pub sweeps_on : RuleMeaning → Plain → ℕ → Out ℕ

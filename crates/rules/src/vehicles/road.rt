@@ -1,4 +1,4 @@
-ghost use Rattle.std.specs.Prelude.{◌≡◌, ℕ, ◌+◌, ◌-◌, ◌*◌, ◌<◌, ◌≤◌, true, length, slice_index};
+ghost use Rattle.std.specs.Prelude.{◌≡◌, ◌+◌, ◌-◌, ◌*◌, ◌<◌, ◌≤◌, true, length, slice_index};
 ghost use Rattle.refusals.specs.Reported.{reported};
 ghost use Rattle.rules.specs.Rule.{fits};
 ghost use Rattle.rules.specs.Vehicles.{draw, gap, v2, v3, column_behind, arrives, arrival, vehicles_next, vehicles_made, Moved};

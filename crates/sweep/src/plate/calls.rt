@@ -1,8 +1,8 @@
-ghost use Rattle.std.specs.Prelude.{◌≡◌, ◌+◌, ◌*◌, ◌<◌, ◌≤◌, true, ◌++◌, length, take, drop, IfOk, vec_len};
+ghost use Rattle.std.specs.Prelude.{◌≡◌, ◌+◌, ◌*◌, ◌<◌, ◌≤◌, IfOk, vec_len};
 ghost use Rattle.refusals.specs.Reported.{reported, Answers};
 ghost use Rattle.rules.specs.Codes.{busy};
-ghost use Rattle.sweep.specs.Plain.{laid, gets, puts, puts_row, row_of, sweeps_on, Does, Low};
-ghost use Rattle.sweep.specs.Plate.{plain_of};
+ghost use Rattle.sweep.specs.Plain.{laid, gets, puts, puts_row, row_of, sweeps_on, Low};
+ghost use Rattle.sweep.specs.Plate.{plain_of, AsDefined};
 
 use super::Plate;
 use refusals::{Failure, Refusal};
@@ -16,16 +16,8 @@ const MOST_STEPS: u32 = 1024;
 /// The last step there is.
 const LAST_STEP: u32 = 2147483647;
 
-// Writes the codes over those from an index on.
-fn overwrite(cells: &mut [u8], at: usize, codes: &[u8])
-    requires { at + length codes.now ≤ length cells.old }
-    ensures { cells.new ≡ take at cells.old ++ (codes.now ++ drop (at + length codes.now) cells.old) }
-{
-    cells[at..at + codes.len()].copy_from_slice(codes);
-}
-
 impl<R: Rule + Drop> Plate<R> {
-    /// A plate of this shape at step 0, with every cell 0.
+    /// A plate of the shape that an outline asks for, at step 0, with every cell 0.
     pub fn new(heap: Global, rule: R, outline: Outline<'_>) -> Result<Plate<R>, Failure>
         ensures answers { Answers plain_of result (laid (R.Rule.meaning rule) outline.entry.width outline.entry.height outline.entry.edgex.now outline.entry.edgey.now) }
         ensures rule { IfOk result (λ p. p.rule ≡ rule) }
@@ -95,8 +87,7 @@ impl<R: Rule> Plate<R> {
 
     /// Sets one cell.
     pub fn put(&mut self, x: u32, y: u32, code: u8) -> Result<(), Refusal>
-        ensures does { Does (reported (λ u. u) result) (plain_of self.new) (puts (R.Rule.meaning self.old.rule) (plain_of self.old) x y code) }
-        ensures rule { self.new.rule ≡ self.old.rule }
+        ensures { AsDefined (reported (λ u. u) result) self.old self.new (puts (R.Rule.meaning self.old.rule) (plain_of self.old) x y code) }
     {
         if x >= self.shape.width || y >= self.shape.height {
             return Err(Refusal::Outside);
@@ -111,8 +102,7 @@ impl<R: Rule> Plate<R> {
 
     /// Sets the first cells of row y, as many as there are codes.
     pub fn put_row(&mut self, y: u32, codes: &[u8]) -> Result<(), Refusal>
-        ensures does { Does (reported (λ u. u) result) (plain_of self.new) (puts_row (R.Rule.meaning self.old.rule) (plain_of self.old) y codes.now) }
-        ensures rule { self.new.rule ≡ self.old.rule }
+        ensures { AsDefined (reported (λ u. u) result) self.old self.new (puts_row (R.Rule.meaning self.old.rule) (plain_of self.old) y codes.now) }
     {
         if y >= self.shape.height || codes.len() > self.shape.width as usize {
             return Err(Refusal::Outside);
@@ -121,7 +111,8 @@ impl<R: Rule> Plate<R> {
             return Err(Refusal::HighCode);
         }
         let at = self.row_start(y);
-        overwrite(self.cells.as_mut_slice(), at, codes);
+        let cells = self.cells.as_mut_slice();
+        cells[at..at + codes.len()].copy_from_slice(codes);
         Ok(())
     }
 
@@ -146,8 +137,7 @@ impl<R: Rule> Plate<R> {
 
     /// Sweeps n times, and answers how many cells were updated.
     pub fn sweep(&mut self, n: u32) -> Result<u64, Refusal>
-        ensures does { Does (reported (λ u. u) result) (plain_of self.new) (sweeps_on (R.Rule.meaning self.old.rule) (plain_of self.old) n) }
-        ensures rule { self.new.rule ≡ self.old.rule }
+        ensures does { AsDefined (reported (λ u. u) result) self.old self.new (sweeps_on (R.Rule.meaning self.old.rule) (plain_of self.old) n) }
         ensures low { Low (R.Rule.meaning self.old.rule) (plain_of self.old) → Low (R.Rule.meaning self.old.rule) (plain_of self.new) }
     {
         if n > MOST_STEPS || self.step + n > LAST_STEP {

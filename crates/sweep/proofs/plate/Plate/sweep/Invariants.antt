@@ -1,13 +1,13 @@
-use Rattle.std.proofs.Common.{◌≡◌, ◌+◌, ◌*◌, vec_items}
+use Rattle.std.proofs.Common.{◌≡◌, ◌+◌, ◌*◌}
 use Rattle.shapes.specs.Shape.{area}
+use Rattle.sweep.specs.Plate.{plain_of}
 use Rattle.sweep.specs.Sweep.{sweeps}
 use Rattle.sweep.proofs.plate.Plate.sweep.Given as goal
 
 -- k sweeps are done
 abbrev pub invariant-loop-k : goal.invariant-loop-k
 invariant-loop-k g l =
-    (l.self.shape ≡ l.initial.self.shape)
+    let first = plain_of l.initial.self in
+    (plain_of l.self ≡ record { shape = first.shape; step = first.step + l._k; cells = sweeps (g.R.Rule.meaning l.initial.self.rule) first.shape first.step l._k first.cells })
     × (l.self.rule ≡ l.initial.self.rule)
-    × (l.self.step ≡ l.initial.self.step + l._k)
-    × (l.updates ≡ l._k * area l.initial.self.shape)
-    × (vec_items l.self.cells ≡ sweeps (g.R.Rule.meaning l.initial.self.rule) l.initial.self.shape l.initial.self.step l._k (vec_items l.initial.self.cells))
+    × (l.updates ≡ l._k * area first.shape)
