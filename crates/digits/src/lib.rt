@@ -1,7 +1,7 @@
 //! Cells in print: one lower-case hexadecimal digit a cell, one line a row.
 #![tactic(auto)]
 
-ghost use Rattle.std.specs.Prelude.{◌≡◌, ◌≤◌, true, false, ◌++◌, map, Some, IfOk, codes, vec_items, string_bytes, MatchOption, OnOk};
+ghost use Rattle.std.specs.Prelude.{◌≡◌, ◌≤◌, true, false, ◌++◌, Some, IfOk, vec_items, string_bytes, MatchOption, OnOk};
 ghost use Rattle.std.specs.Option.{option_map};
 ghost use Rattle.digits.specs.Digits.{digit, is_digit, code_of, row_read, row_line, row_text};
 

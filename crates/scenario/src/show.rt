@@ -7,6 +7,7 @@ use super::trouble::Trouble;
 use desk::DeskReply;
 use refusals::FiveNumbers;
 use rules::Rule;
+use std::error::Error;
 use std::fmt;
 
 impl fmt::Display for Done {
@@ -65,6 +66,8 @@ impl fmt::Display for Trouble {
         }
     }
 }
+
+impl Error for Trouble {}
 
 // A refusal is told by its numbers, and any other trouble by the line.
 impl fmt::Display for Answer<Reply> {

@@ -1,12 +1,11 @@
-ghost use Rattle.std.specs.Prelude.{◌≡◌, true, false, length, Some, Ok};
+ghost use Rattle.std.specs.Prelude.{◌≡◌, true, false, Some, Ok};
 ghost use Rattle.std.specs.Option.{option_map};
 ghost use Rattle.refusals.specs.declared.five.FiveNumbers.{FiveNumbers};
-ghost use Rattle.rules.specs.Codes.{busy};
 ghost use Rattle.rules.specs.Meant.{any_of};
 ghost use Rattle.rules.specs.Vehicles.{vehicles_made};
 ghost use Rattle.sweep.specs.Plate.{plain_of, rule_of};
 ghost use Rattle.commands.specs.Commands.{asked_of};
-ghost use Rattle.scenario.specs.Sessions.{fresh, plated, state_of, said_of, refused, ruling, rule_in, plating_in, rowing, rowing_in, sweep_said, sweeping_in, plate_in, takes_memory, obeyed, Obeys};
+ghost use Rattle.scenario.specs.Sessions.{fresh, plated, state_of, said_of, refused, ruling, rule_in, plating_in, rowing, rowing_in, sweeping_in, plate_in, takes_memory, obeyed, Obeys};
 
 use super::Session;
 use crate::answer::Reply;
