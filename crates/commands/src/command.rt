@@ -31,12 +31,12 @@ pub enum Command<'a> {
 pub enum StoreCommand<'a> {
     /// plain memory of so many tiles
     Memory(u32),
-    /// a card image of so many tiles, and the numbers of those that are worn
-    Card(u32, &'a [&'a str]),
+    /// a card image of so many tiles, and the words that name those that are worn
+    Card { tiles: u32, worn: &'a [&'a str] },
     /// bits of so many tiles
     Bits(u32),
-    /// a window over the store: its first tile, and how many
-    Window(u32, u32),
+    /// a window over the store
+    Window { first: u32, tiles: u32 },
     /// the count
     Count,
     /// the top
@@ -44,5 +44,5 @@ pub enum StoreCommand<'a> {
     /// a tile's bytes
     Read(u32),
     /// a tile of which every byte becomes this one
-    Write(u32, u8),
+    Write { tile: u32, byte: u8 },
 }

@@ -12,21 +12,24 @@ fn read_store_command<'a>(words: &'a [&'a str]) -> Option<StoreCommand<'a>>
 {
     match *words {
         ["store", "card", tiles, ref worn @ ..] => {
-            Some(StoreCommand::Card(read_number(tiles)?, worn))
+            Some(StoreCommand::Card {
+                tiles: read_number(tiles)?,
+                worn,
+            })
         }
         ["store", "memory", tiles] => Some(StoreCommand::Memory(read_number(tiles)?)),
         ["store", "bits", tiles] => Some(StoreCommand::Bits(read_number(tiles)?)),
-        ["window", first, tiles] => Some(StoreCommand::Window(
-            read_number(first)?,
-            read_number(tiles)?,
-        )),
+        ["window", first, tiles] => Some(StoreCommand::Window {
+            first: read_number(first)?,
+            tiles: read_number(tiles)?,
+        }),
         ["count"] => Some(StoreCommand::Count),
         ["top"] => Some(StoreCommand::Top),
         ["read", tile] => Some(StoreCommand::Read(read_number(tile)?)),
-        ["write", tile, byte] => Some(StoreCommand::Write(
-            read_number(tile)?,
-            u8::try_from(read_number(byte)?).ok()?,
-        )),
+        ["write", tile, byte] => Some(StoreCommand::Write {
+            tile: read_number(tile)?,
+            byte: u8::try_from(read_number(byte)?).ok()?,
+        }),
         _ => None,
     }
 }

@@ -3,7 +3,8 @@ use Rattle.std.specs.Prelude.{◌≡◌, ℕ, ◌⊎◌, List, [], length, Err, 
 use Rattle.commands.specs.Commands as command
 use Rattle.commands.specs.Commands.{Asked, StoreAsked, command_of}
 use Rattle.commands.specs.Words.{Words}
-use Rattle.desk.specs.declared.reply.DeskReply.{DeskReply}
+use Rattle.desk.specs.declared.done.DeskDone.{DeskDone}
+use Rattle.desk.specs.declared.trouble.DeskTrouble.{DeskTrouble}
 use Rattle.desk.specs.Desks.{DeskState, desk_of, desk_said_of, store_takes_memory, desk_obeyed, DeskObeys}
 use Rattle.scenario.specs.declared.answer.BenchReply.{BenchReply}
 use Rattle.scenario.specs.declared.answer.BenchReply.TheVariants.{Plates, Stores}
@@ -29,7 +30,7 @@ pub record PlatesObey (r : BenchReply) (before after : BenchState) (q : Asked) :
 
 -- a command for stores was obeyed, and the plates are as they were
 pub record StoresObey (r : BenchReply) (before after : BenchState) (q : StoreAsked) : Type 0 where
-  pub replied : DeskReply
+  pub replied : Result DeskDone DeskTrouble
   pub says : r ≡ Stores replied
   pub obeys : DeskObeys (store_takes_memory q) (desk_said_of replied) before.stores after.stores (desk_obeyed before.stores q)
   pub kept : after.plates ≡ before.plates

@@ -1,11 +1,15 @@
 -- What is printed for a command.
-use Rattle.std.specs.Prelude.{ℕ, List, [], ◌++◌, Ok, Err, Result, codes, decimal}
+use Rattle.std.specs.Prelude.{ℕ, List, [], ◌++◌, Some, Option, Ok, Err, Result, codes, decimal}
 use Rattle.refusals.specs.Numbers.{numbers}
 use Rattle.refusals.specs.Written as refusals
 use Rattle.rules.specs.Meant.{any_of}
 use Rattle.rules.specs.Rule.{RuleMeaning}
 use Rattle.rules.specs.Written as rules
 use Rattle.shapes.specs.Shape.{edge_word}
+use Rattle.desk.specs.declared.done.DeskDone.{DeskDone}
+use Rattle.desk.specs.declared.trouble.DeskTrouble.{DeskTrouble}
+use Rattle.desk.specs.declared.trouble.DeskTrouble.TheVariants as desk_trouble
+use Rattle.desk.specs.Written as desk
 use Rattle.scenario.specs.declared.done.Done.{Done}
 use Rattle.scenario.specs.declared.done.Done.TheVariants as done
 use Rattle.scenario.specs.declared.trouble.Trouble.{Trouble}
@@ -43,3 +47,13 @@ reply_text line (Err trouble.NoRule) = line_text line (trouble_text trouble.NoRu
 reply_text line (Err (trouble.RowLength cells columns)) = line_text line (trouble_text (trouble.RowLength cells columns))
 reply_text line (Err trouble.NotUnderstood) = line_text line (trouble_text trouble.NotUnderstood)
 reply_text line (Err trouble.NoMemory) = line_text line (trouble_text trouble.NoMemory)
+
+-- a fault is told by itself, and any other trouble with its line
+abbrev pub desk_reply_text : ℕ → Result DeskDone DeskTrouble → Option (List ℕ)
+desk_reply_text line (Ok d) = desk.done_text d
+desk_reply_text line (Err (desk_trouble.Faulted f)) = Some (desk.trouble_text (desk_trouble.Faulted f))
+desk_reply_text line (Err desk_trouble.NoStore) = Some (line_text line (desk.trouble_text desk_trouble.NoStore))
+desk_reply_text line (Err desk_trouble.WindowTwice) = Some (line_text line (desk.trouble_text desk_trouble.WindowTwice))
+desk_reply_text line (Err desk_trouble.TooManyTiles) = Some (line_text line (desk.trouble_text desk_trouble.TooManyTiles))
+desk_reply_text line (Err desk_trouble.BadWorn) = Some (line_text line (desk.trouble_text desk_trouble.BadWorn))
+desk_reply_text line (Err desk_trouble.NoMemory) = Some (line_text line (desk.trouble_text desk_trouble.NoMemory))

@@ -1,9 +1,12 @@
 use super::done::Done;
 use super::trouble::Trouble;
-use desk::DeskReply;
+use desk::{DeskDone, DeskTrouble};
 
 /// What a command for plates was answered.
 pub type Reply = Result<Done, Trouble>;
+
+/// What a command for stores was answered.
+pub type DeskReply = Result<DeskDone, DeskTrouble>;
 
 /// What a bench replies to a line.
 #[derive(Clone, Copy)]

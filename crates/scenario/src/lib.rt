@@ -10,7 +10,7 @@ mod session;
 mod show;
 mod trouble;
 
-pub use answer::{Answer, BenchReply, Reply};
+pub use answer::{Answer, BenchReply, DeskReply, Reply};
 pub use bench::Bench;
 pub use done::Done;
 pub use rows::rows_text;

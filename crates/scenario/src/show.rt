@@ -1,10 +1,10 @@
 ghost use Rattle.std.specs.Prelude.{Some};
-ghost use Rattle.scenario.specs.Written.{done_text, trouble_text, reply_text};
+ghost use Rattle.scenario.specs.Written.{done_text, trouble_text, reply_text, desk_reply_text};
 
-use super::answer::{Answer, BenchReply, Reply};
+use super::answer::{Answer, BenchReply, DeskReply, Reply};
 use super::done::Done;
 use super::trouble::Trouble;
-use desk::DeskReply;
+use desk::DeskTrouble;
 use refusals::FiveNumbers;
 use rules::Rule;
 use std::error::Error;
@@ -83,48 +83,16 @@ impl fmt::Display for Answer<Reply> {
     }
 }
 
-// The bytes of a tile, two hexadecimal digits each.
-#[derive(Clone, Copy)]
-struct Bytes {
-    bytes: [u8; 64],
-}
-
-impl fmt::Display for Bytes {
-    fn fmt<W: fmt::Write>(&self, f: &mut fmt::Formatter<W>) -> fmt::Result {
-        for byte in self.bytes {
-            write!(f, "{byte:02x}")?;
-        }
-        Ok(())
-    }
-}
-
+// A fault is told by itself, and any other trouble by the line.
 impl fmt::Display for Answer<DeskReply> {
+    ghost output = { λ answer. desk_reply_text answer.line answer.reply };
+
     fn fmt<W: fmt::Write>(&self, f: &mut fmt::Formatter<W>) -> fmt::Result {
         let line = self.line;
         match self.reply {
-            DeskReply::MemoryMade(n) => write!(f, "store memory: {n} tiles"),
-            DeskReply::CardMade(n, worn) => write!(
-                f,
-                "store card: {n} tiles, {worn} named as worn"
-            ),
-            DeskReply::BitsMade(n) => write!(f, "store bits: {n} tiles"),
-            DeskReply::WindowMade(first, tiles) => write!(
-                f,
-                "window: {tiles} tiles from tile {first} on"
-            ),
-            DeskReply::Count(n) => write!(f, "count {n}"),
-            DeskReply::Top(n) => write!(f, "top {n}"),
-            DeskReply::Tile(k, bytes) => {
-                let bytes = Bytes { bytes };
-                write!(f, "tile {k} {bytes}")
-            }
-            DeskReply::Written(k) => write!(f, "written {k}"),
-            DeskReply::Faulted(fault) => write!(f, "fault {fault}"),
-            DeskReply::NoStore => write!(f, "line {line}: no store yet"),
-            DeskReply::WindowTwice => write!(f, "line {line}: there is a window already"),
-            DeskReply::TooManyTiles => write!(f, "line {line}: a store has at most 1048576 tiles"),
-            DeskReply::BadWorn => write!(f, "line {line}: a worn tile is a number below the count"),
-            DeskReply::NoMemory => write!(f, "line {line}: not enough memory"),
+            Ok(done) => write!(f, "{done}"),
+            Err(fault @ DeskTrouble::Faulted(_)) => write!(f, "{fault}"),
+            Err(other) => write!(f, "line {line}: {other}"),
         }
     }
 }

@@ -131,13 +131,13 @@ impl Desk {
     {
         match command {
             StoreCommand::Memory(n) => self.set_memory(heap, n),
-            StoreCommand::Card(n, worn) => self.set_card(heap, n, worn),
+            StoreCommand::Card { tiles, worn } => self.set_card(heap, tiles, worn),
             StoreCommand::Bits(n) => self.set_bits(heap, n),
-            StoreCommand::Window(first, tiles) => self.set_window(first, tiles),
+            StoreCommand::Window { first, tiles } => self.set_window(first, tiles),
             StoreCommand::Count => self.count(),
             StoreCommand::Top => self.top(),
             StoreCommand::Read(k) => self.read(k),
-            StoreCommand::Write(k, value) => self.write(k, value),
+            StoreCommand::Write { tile, byte } => self.write(tile, byte),
         }
     }
 }
