@@ -1,15 +1,12 @@
 -- Words that name tiles, one after the other.
-use Rattle.std.proofs.Common.{◌≡◌, ℕ, ◌+◌, ◌*◌, ◌<◌, ◌≤◌, Bool, true, ◌&&◌, List, [], ◌∷◌, map, length, get_or, drop, replicate, Some, false, Option, sym, refl, ap, ◌∙◌, ap₂, Bor}
+use Rattle.std.proofs.Common.{◌≡◌, ℕ, ◌+◌, ◌*◌, ◌<◌, ◌≤◌, true, ◌&&◌, List, [], ◌∷◌, map, length, get_or, drop, replicate, false, sym, refl, ap, ◌∙◌, ap₂, Bor}
 use Rattle.std.proofs.lemmas.List.{drop_more, drop_all, length-map}
 use Rattle.std.proofs.lemmas.Bool.{le-leb}
 use Rattle.stores.specs.Layouts.{image, card_layout}
 use Rattle.std.specs.List.{list_all}
 use Rattle.commands.specs.Commands.{card}
 use Rattle.desk.specs.Cards.{worn_fits, all_fit, marked_one, marked}
-use Rattle.stores.specs.Meaning.{Store}
-use Rattle.piles.specs.declared.choice.Pile.{Pile}
-use Rattle.piles.specs.Piles.{pile_of, is_windowed}
-use Rattle.desk.specs.Desks.{DeskState, DeskSaid, plain, bad_worn, card_made, desk_outcome, desk_obeyed, seen, seen_if, on_store, Called, DeskObeys}
+use Rattle.desk.specs.Desks.{DeskState, plain, bad_worn, card_made, desk_outcome, desk_obeyed}
 
 abbrev texts : List (Bor (List ℕ)) → List (List ℕ)
 texts ws = map (λ w. w.now) ws
@@ -43,12 +40,3 @@ card_is d n ws memory l f e =
 -- and one of whose words one names no tile is refused
 pub bad_words : (d : DeskState) (n : ℕ) (ws : List (Bor (List ℕ))) → n ≤ 1048576 → all_fit n (texts ws) ≡ false → desk_outcome bad_worn d ≡ desk_obeyed d (card n (texts ws))
 bad_words d n ws l f = rw (le-leb n 1048576 l, f) refl
-
--- a call on the store, which stays as it was seen
-pub called_obeys : (p p' : Pile) (said : Option DeskSaid) (defined : Store → DeskSaid) (left : Store → Store) → is_windowed p' ≡ is_windowed p → Called said (pile_of p') (defined (pile_of p)) (left (pile_of p))
-    → DeskObeys false said (seen_if (Some p)) (seen_if (Some p')) (on_store (seen_if (Some p)) defined left)
-called_obeys p p' said defined left kind called = rw (called.says, kind, called.leaves) (by_kind (is_windowed p) (pile_of p))
-  where
-    by_kind : (w : Bool) (s : Store) → desk_outcome (defined s) (seen w (left s)) ≡ on_store (seen w s) defined left
-    by_kind true s = refl
-    by_kind false s = refl

@@ -100,6 +100,11 @@ pub record Called (said : Option DeskSaid) (after : Store) (defined : DeskSaid) 
   pub says : said ≡ Some defined
   pub leaves : after ≡ left
 
+-- a call on a pile said this and left that store, and a window where there was one
+pub record CalledOn (said : Option DeskSaid) (before after : Pile) (defined : DeskSaid) (left : Store) : Type 0 where
+  pub called : Called said (pile_of after) defined left
+  pub kind : is_windowed after ≡ is_windowed before
+
 -- a call on the store, if there is one
 abbrev pub on_store : DeskState → (Store → DeskSaid) → (Store → Store) → DeskOutcome
 on_store empty said after = desk_outcome no_store empty

@@ -3,6 +3,7 @@ ghost use Rattle.std.specs.List.{list_all};
 ghost use Rattle.desk.specs.Cards.{named, worn_fits, marked_one, marked};
 ghost use Rattle.commands.specs.Numerals.{numeral};
 
+use super::count::TileCount;
 use commands::read_number;
 use std::alloc::{AllocError, Global};
 
@@ -27,39 +28,37 @@ pub(crate) fn all_name_tiles(words: &[&str], n: u32) -> bool
     words.iter().all(|word| names_tile(word, n))
 }
 
-// The memory of a card image, while its marks are set.
+// The memory of a card image, while its marks are set, and how many tiles it has, by which words are judged.
 #[derive(Drop)]
 struct CardMemory {
-    tiles: u32,
+    count: TileCount,
     bytes: Vec<u8>,
-    ghost few: { tiles ≤ 1048576 },
-    ghost sized: { vec_len bytes ≡ 65 * tiles },
+    ghost sized: { vec_len bytes ≡ 65 * count.tiles },
 }
 
 impl CardMemory {
-    // Memory of n tiles, all of mark 0.
-    fn new(heap: Global, n: u32) -> Result<CardMemory, AllocError>
-        requires { n ≤ 1048576 }
-        ensures tiles { IfOk result (λ c. c.tiles ≡ n) }
-        ensures zeros { IfOk result (λ c. c.bytes.items ≡ replicate (65 * n) 0) }
+    // Memory of so many tiles, all of mark 0.
+    fn new(heap: Global, count: TileCount) -> Result<CardMemory, AllocError>
+        ensures tiles { IfOk result (λ c. c.count ≡ count) }
+        ensures zeros { IfOk result (λ c. c.bytes.items ≡ replicate (65 * count.tiles) 0) }
     {
-        let bytes = vec![in heap; 0u8; 65 * n as usize]?;
-        Ok(CardMemory { tiles: n, bytes })
+        let bytes = count.zeros(heap, 65)?;
+        Ok(CardMemory { count, bytes })
     }
 
     // Sets the mark of the tile that the word names, if it names one.
     fn mark(&mut self, word: &str)
-        ensures tiles { self.new.tiles ≡ self.old.tiles }
-        ensures marks { self.new.bytes.items ≡ marked_one self.old.tiles self.old.bytes.items word.now }
+        ensures tiles { self.new.count ≡ self.old.count }
+        ensures marks { self.new.bytes.items ≡ marked_one self.old.count.tiles self.old.bytes.items word.now }
     {
-        if let Some(k) = tile_named(word, self.tiles) {
+        if let Some(k) = tile_named(word, self.count.tiles()) {
             self.bytes[65 * k as usize] = 1;
         }
     }
 
     // Sets the marks of the tiles that the words name.
     fn mark_all(&mut self, worn: &[&str])
-        ensures { self.new.bytes.items ≡ marked self.old.tiles self.old.bytes.items (map (λ w. w.now) worn.now) }
+        ensures { self.new.bytes.items ≡ marked self.old.count.tiles self.old.bytes.items (map (λ w. w.now) worn.now) }
     {
         for word in worn {
             self.mark(word);
@@ -67,13 +66,16 @@ impl CardMemory {
     }
 }
 
-// The memory of a card image of n tiles, with the marks of the named ones set.
-pub(crate) fn card_memory(heap: Global, n: u32, worn: &[&str]) -> Result<Vec<u8>, AllocError>
-    requires { n ≤ 1048576 }
-    ensures { IfOk result (λ v. v.items ≡ marked n (replicate (65 * n) 0) (map (λ w. w.now) worn.now)) }
+// The memory of a card image of so many tiles, with the marks of the named ones set.
+pub(crate) fn card_memory(
+    heap: Global,
+    count: TileCount,
+    worn: &[&str],
+) -> Result<Vec<u8>, AllocError>
+    ensures { IfOk result (λ v. v.items ≡ marked count.tiles (replicate (65 * count.tiles) 0) (map (λ w. w.now) worn.now)) }
 {
-    let mut card = CardMemory::new(heap, n)?;
+    let mut card = CardMemory::new(heap, count)?;
     card.mark_all(worn);
-    let CardMemory { tiles: _, bytes } = card;
+    let CardMemory { count: _, bytes } = card;
     Ok(bytes)
 }

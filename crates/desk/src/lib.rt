@@ -3,6 +3,7 @@
 
 mod card;
 mod causes;
+mod count;
 mod desk;
 mod done;
 mod show;

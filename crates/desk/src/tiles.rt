@@ -1,7 +1,7 @@
-ghost use Rattle.std.specs.Prelude.{◌≡◌, replicate};
+ghost use Rattle.std.specs.Prelude.{replicate};
 ghost use Rattle.stores.specs.Meaning.{read, write, store_after};
-ghost use Rattle.piles.specs.Piles.{pile_of, is_windowed};
-ghost use Rattle.desk.specs.Desks.{desk_said_of, read_said, write_said, Called};
+ghost use Rattle.piles.specs.Piles.{pile_of};
+ghost use Rattle.desk.specs.Desks.{desk_said_of, read_said, write_said, CalledOn};
 
 use super::done::DeskDone;
 use super::trouble::DeskTrouble;
@@ -10,8 +10,7 @@ use stores::TileStore;
 
 // Reads a tile of a store, and says what it holds.
 pub(crate) fn read_tile(store: &mut Pile, k: u32) -> Result<DeskDone, DeskTrouble>
-    ensures called { Called (desk_said_of result) (pile_of store.new) (read_said (pile_of store.old) k (read (pile_of store.old) k)) (pile_of store.old) }
-    ensures kind { is_windowed store.new ≡ is_windowed store.old }
+    ensures { CalledOn (desk_said_of result) store.old store.new (read_said (pile_of store.old) k (read (pile_of store.old) k)) (pile_of store.old) }
 {
     let mut bytes = [0u8; 64];
     store.read(k, &mut bytes)?;
@@ -20,8 +19,7 @@ pub(crate) fn read_tile(store: &mut Pile, k: u32) -> Result<DeskDone, DeskTroubl
 
 // Writes a tile of which every byte is the same.
 pub(crate) fn write_tile(store: &mut Pile, k: u32, value: u8) -> Result<DeskDone, DeskTrouble>
-    ensures called { Called (desk_said_of result) (pile_of store.new) (write_said k (write (pile_of store.old) k (replicate 64 value))) (store_after (write (pile_of store.old) k (replicate 64 value)) (pile_of store.old) k (replicate 64 value)) }
-    ensures kind { is_windowed store.new ≡ is_windowed store.old }
+    ensures { CalledOn (desk_said_of result) store.old store.new (write_said k (write (pile_of store.old) k (replicate 64 value))) (store_after (write (pile_of store.old) k (replicate 64 value)) (pile_of store.old) k (replicate 64 value)) }
 {
     store.write(k, &[value; 64])?;
     Ok(DeskDone::Written(k))

@@ -1,8 +1,8 @@
 use shelf::Shelf;
 use stores::{Bits, Card, Memory, Window};
 
-// Both are enums with a `match` in each call, and no `dyn`: the kinds are closed, and the gate takes no function
-// that makes a `dyn` and hands it out.
+// Both are enums with a `match` in each call. A `dyn` would be made and handed out, which the gate refuses; and with
+// one `Either` for both a card would be `Left(Right(Left(card)))`, and no plainer.
 
 /// A store of this repository that is chosen while a program runs.
 #[derive(Drop)]

@@ -1,7 +1,7 @@
 -- The list that the places hold, and what is done with it.
-use Rattle.std.specs.Prelude.{ℕ, Bool, false, cond, List, [], ◌∷◌, length, take, ◌==◌, nat_lt, slice_index}
+use Rattle.std.specs.Prelude.{ℕ, Bool, false, cond, List, [], ◌∷◌, length, take, ◌==◌, nat_lt, slice_index, slice_index_or, slice_set}
 use Rattle.shelves.specs.declared.entry.Entry.{Entry}
-use Rattle.shelves.specs.Shelves.{to_front}
+use Rattle.shelves.specs.Shelves.{blank, to_front, cleaned}
 use Rattle.places.specs.declared.places.Places.{Places}
 
 -- the tiles in the places, front first
@@ -20,6 +20,10 @@ moved_to_front es p = cond (nat_lt p (length es)) (to_front es p) es
 -- one in front of the list; of 65 the last leaves
 abbrev pub admitted : List Entry → Entry → List Entry
 admitted es e = take 64 (e ∷ es)
+
+-- the entry at place p is not changed any more
+abbrev pub cleaned_at : List Entry → ℕ → List Entry
+cleaned_at es p = slice_set es p (cleaned (slice_index_or es p blank))
 
 -- the bytes of the front tile, or other ones if there is no tile
 abbrev pub front_bytes : List Entry → List ℕ → List ℕ

@@ -7,6 +7,8 @@ pub struct Offset {
     ghost inside: { index < 64 },
 }
 
+// `new` and `index` are named like `new` and `get` of `NonZero`: one has nothing to say of a number that it does
+// not take, and `TryFrom` and `From` would say no more.
 impl Offset {
     /// The offset of byte i of a tile, if a tile has it.
     pub fn new(i: usize) -> Option<Offset>

@@ -14,14 +14,7 @@ pub fn count_code(codes: &[u8], wanted: u8) -> usize
     ensures is { result ≡ times wanted codes.now }
     ensures few { result ≤ length codes.now }
 {
-    // A loop, since `filter` and `count` make a sweep of Life a third slower.
-    let mut count: usize = 0;
-    for code in codes {
-        if *code == wanted {
-            count += 1;
-        }
-    }
-    count
+    codes.iter().map(|code| usize::from(*code == wanted)).sum()
 }
 
 /// Whether a window has the right length and no code above the top.

@@ -25,11 +25,7 @@ fn next_cell(window: &[u8]) -> u8
     ensures { result ≡ life_cell window.now }
 {
     let neighbours = living_neighbours(window);
-    if neighbours == 3 || (neighbours == 2 && window[4] == 1) {
-        1
-    } else {
-        0
-    }
+    u8::from(neighbours == 3 || (neighbours == 2 && window[4] == 1))
 }
 
 impl Rule for Life {

@@ -83,7 +83,8 @@ impl fmt::Display for Answer<Reply> {
     }
 }
 
-// A fault is told by itself, and any other trouble by the line.
+// A fault is told by itself, and any other trouble by the line. It stands beside the one above, since which trouble
+// is told by itself is each enum's own.
 impl fmt::Display for Answer<DeskReply> {
     ghost output = { λ answer. desk_reply_text answer.line answer.reply };
 

@@ -26,14 +26,23 @@ impl FromStr for Edge {
     }
 }
 
+impl Edge {
+    /// The word that names the edge.
+    pub fn word(self) -> &'static str
+        ensures { result.now ≡ edge_word self }
+    {
+        match self {
+            Edge::Wall => "wall",
+            Edge::Ring => "ring",
+        }
+    }
+}
+
 impl fmt::Display for Edge {
     ghost output = { λ edge. Some (edge_word edge) };
 
     fn fmt<W: fmt::Write>(&self, f: &mut fmt::Formatter<W>) -> fmt::Result {
-        f.write_str(match self {
-            Edge::Wall => "wall",
-            Edge::Ring => "ring",
-        })
+        f.write_str(self.word())
     }
 }
 

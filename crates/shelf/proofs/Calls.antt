@@ -153,17 +153,14 @@ module _ (h : Shelved) (l : Lawful h.below) (kept : Kept h.below h.list) (k : �
   ]
   refused false f e = let z : ◌≡◌ {A = ℕ} 0 1 = cc in absurd (omega arith)
 
-  -- the test refuses
-  pub top_refused : (f : Fault) (q : Result (Unit {0}) Fault) → q ≡ s → s ≡ Err f → TileWritten h k bytes q h
-  top_refused f q p e =
+  -- the test refuses, and then nothing below is reached
+  pub top_did : {S : Type 0} (steps : S → Access → S → Type 0) (x : S) (f : Fault) (q : Result (Unit {0}) Fault) → q ≡ s → s ≡ Err f → Did (Reached steps x (write_accesses h k bytes) x) (TileWritten h k bytes q h)
+  top_did steps x f q p e =
       let t = refused high f (sym e ∙ tested) in
-      refused-above h k bytes q t.1 (sym (tells t.1) ∙ t.0) (p ∙ e ∙ ap Err t.2)
-
-  -- and then nothing below is reached
-  pub top_reaches : {S : Type 0} (steps : S → Access → S → Type 0) (x : S) (f : Fault) → s ≡ Err f → Reached steps x (write_accesses h k bytes) x
-  top_reaches steps x f e =
-      let t = refused high f (sym e ∙ tested) in
-      reached_by steps x x [] (write_accesses h k bytes) (sym (cond-true _ _ _ (sym (tells t.1) ∙ t.0))) refl
+      record {
+        reaches = reached_by steps x x [] (write_accesses h k bytes) (sym (cond-true _ _ _ (sym (tells t.1) ∙ t.0))) refl;
+        does = refused-above h k bytes q t.1 (sym (tells t.1) ∙ t.0) (p ∙ e ∙ ap Err t.2);
+      }
 
   accepted : (b : Bool) → Ok tt ≡ above_refused h.below k b → k < count h.below → b ≡ false
   accepted true e w =
@@ -190,15 +187,17 @@ module _ (h : Shelved) (l : Lawful h.below) (kept : Kept h.below h.list) (k : �
     ]
 
     -- else the touch's accesses are the write's
-    pub write_reaches : {S : Type 0} (steps : S → Access → S → Type 0) (x y : S) → Reached steps x (touch_accesses h k) y → Reached steps x (write_accesses h k bytes) y
+    write_reaches : {S : Type 0} (steps : S → Access → S → Type 0) (x y : S) → Reached steps x (touch_accesses h k) y → Reached steps x (write_accesses h k bytes) y
     write_reaches steps x y t = reached_by steps x y (touch_accesses h k) (write_accesses h k bytes) (by_touch low) t
 
-    pub touch_refused : (f : Fault) (q : Result (Unit {0}) Fault) → q ≡ r → r ≡ Err f → TileWritten h k bytes q h1
-    touch_refused = write-refused h l kept k bytes low r h1 t
+    module _ {S : Type 0} (steps : S → Access → S → Type 0) (x y : S) (reached : Reached steps x (touch_accesses h k) y) where
+      -- a touch that is refused
+      pub touch_did : (f : Fault) (q : Result (Unit {0}) Fault) → q ≡ r → r ≡ Err f → Did (Reached steps x (write_accesses h k bytes) y) (TileWritten h k bytes q h1)
+      touch_did f q p e = record { reaches = write_reaches steps x y reached; does = write-refused h l kept k bytes low r h1 t f q p e }
 
-    module _ (ok : r ≡ Ok tt) (wide : k < count h.below → length bytes ≡ 64) (es : List Entry) (over : es ≡ over_front h1.list bytes) where
-      pub write_does : TileWritten h k bytes (Ok tt) (record { list = es; below = h1.below; fetches = h1.fetches })
-      write_does = write-accepted h l kept k bytes low r h1 t ok (wide (within h h1 k r t ok)) es over
+      -- and one that is accepted, with other bytes then in front
+      pub write_did : r ≡ Ok tt → (k < count h.below → length bytes ≡ 64) → (es : List Entry) → es ≡ over_front h1.list bytes → Did (Reached steps x (write_accesses h k bytes) y) (TileWritten h k bytes (Ok tt) (record { list = es; below = h1.below; fetches = h1.fetches }))
+      write_did ok wide es over = record { reaches = write_reaches steps x y reached; does = write-accepted h l kept k bytes low r h1 t ok (wide (within h h1 k r t ok)) es over }
 
-      pub write_stays : Kept h1.below es
-      write_stays = write_keeps h l kept k bytes low r h1 t ok (wide (within h h1 k r t ok)) es over
+    pub write_stays : r ≡ Ok tt → (k < count h.below → length bytes ≡ 64) → (es : List Entry) → es ≡ over_front h1.list bytes → Kept h1.below es
+    write_stays ok wide es over = write_keeps h l kept k bytes low r h1 t ok (wide (within h h1 k r t ok)) es over

@@ -1,7 +1,8 @@
 -- What the calls of any store answer and leave, case by case.
-use Rattle.std.specs.Prelude.{◌≡◌, ℕ, zero, suc, ◌<◌, ◌≤◌, true, false, List, [], ◌∷◌, Err, Result, nat_lt, slice_index, refl}
-use Rattle.std.proofs.Common.{arith, inl, inr}
-use Rattle.std.proofs.lemmas.Bool.{cases_Bool, lt-ltb, le-ltb, ltb-false, true≢false}
+use Rattle.std.specs.Prelude.{◌≡◌, ℕ, zero, suc, ◌+◌, ◌<◌, ◌≤◌, Bool, true, false, ◌||◌, cond, List, [], ◌∷◌, length, drop, Err, Result, nat_lt, slice_index, refl}
+use Rattle.std.proofs.Common.{◌∙◌, arith, inl, inr}
+use Rattle.std.proofs.lemmas.List.{at_drop_more}
+use Rattle.std.proofs.lemmas.Bool.{cases_Bool, lt-ltb, le-ltb, ltb-false, true≢false, cond-true, cond-false}
 use Rattle.refusals.specs.declared.fault.Fault.{Fault}
 use Rattle.stores.specs.Meaning.{Store, ReadAs, WrittenAs, count, fault_of, past, above, any_above, unless_fault, read, write}
 
@@ -31,3 +32,17 @@ pub each_low : (top : ℕ) (bytes : List ℕ) → any_above top bytes ≡ false 
 each_low top [] h i = omega arith
 each_low top (b ∷ bytes) h zero = elim (cases_Bool (nat_lt top b)) [ inl e ↦ absurd (true≢false (rw e at h)) | inr e ↦ ltb-false top b e ]
 each_low top (b ∷ bytes) h (suc i) = elim (cases_Bool (nat_lt top b)) [ inl e ↦ absurd (true≢false (rw e at h)) | inr e ↦ each_low top bytes (rw e at h) i ]
+
+-- one byte after the other
+pub above-drop : (top : ℕ) (bytes : List ℕ) (i : ℕ) → i < length bytes → any_above top (drop i bytes) ≡ cond (nat_lt top (slice_index bytes i)) true (any_above top (drop (i + 1) bytes))
+above-drop top bytes i h = at_drop_more (any_above top) bytes i 0 h ∙ either (nat_lt top (slice_index bytes i)) (any_above top (drop (i + 1) bytes))
+  where
+    either : (b c : Bool) → (b || c) ≡ cond b true c
+    either true c = refl
+    either false c = refl
+
+pub above_low : (top : ℕ) (bytes : List ℕ) (i : ℕ) → i < length bytes → slice_index bytes i ≤ top → any_above top (drop i bytes) ≡ any_above top (drop (i + 1) bytes)
+above_low top bytes i h low = above-drop top bytes i h ∙ cond-false _ _ _ (le-ltb top (slice_index bytes i) low)
+
+pub above_high : (top : ℕ) (bytes : List ℕ) (i : ℕ) → i < length bytes → top < slice_index bytes i → any_above top (drop i bytes) ≡ true
+above_high top bytes i h high = above-drop top bytes i h ∙ cond-true _ _ _ (lt-ltb top (slice_index bytes i) high)

@@ -14,6 +14,8 @@ pub use marked::Marked;
 pub use plain::Plain;
 
 /// How the tiles of a store lie in memory, one after another.
+///
+/// No function has a body of its own here: what two of three layouts do would need a law that the third breaks.
 pub trait Layout {
     /// all that the layout is
     ghost form: { Form };

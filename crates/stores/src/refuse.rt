@@ -29,9 +29,8 @@ pub fn raised(answer: Result<(), Fault>) -> Result<(), Fault>
     ensures { result ≡ passed_on answer }
 {
     answer.map_err(|fault| Fault {
-        cause: fault.cause,
-        tile: fault.tile,
         level: fault.level.saturating_add(1),
+        ..fault
     })
 }
 

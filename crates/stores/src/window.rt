@@ -72,8 +72,7 @@ impl<S: TileStore> TileStore for Window<S> {
         if k >= self.count() {
             return Err(fault(PAST_COUNT, k));
         }
-        raised(self.below.read(self.first.saturating_add(k), out))?;
-        Ok(())
+        raised(self.below.read(self.first.saturating_add(k), out))
     }
 
     fn write(&mut self, k: u32, bytes: &[u8; 64]) -> Result<(), Fault>
@@ -89,7 +88,6 @@ impl<S: TileStore> TileStore for Window<S> {
         if any_above(bytes, self.top()) {
             return Err(fault(ABOVE_TOP, k));
         }
-        raised(self.below.write(self.first.saturating_add(k), bytes))?;
-        Ok(())
+        raised(self.below.write(self.first.saturating_add(k), bytes))
     }
 }

@@ -18,6 +18,8 @@ pub fn read_memory(memory: Vec<u8>, k: u32, out: &mut [u8; 64]) -> Result<(), Fa
     store.read(k, out)
 }
 
+// One function for each store: `Layout` is not exported, so that none can be written here for every layout.
+
 /// Writes tile k of a card image, and gives the memory back.
 pub fn write_card(memory: Vec<u8>, k: u32, bytes: &[u8; 64]) -> Vec<u8>
     ensures { result.items ≡ memory_after card_layout (write (image card_layout memory.items) k bytes.now) memory.items k bytes.now }

@@ -62,7 +62,7 @@ impl<R: Rule> Field<'_, R> {
     {
         let length = 2 * usize::from(self.columns.reach) + 1;
         let height = 2 * usize::from(self.rows.reach) + 1;
-        // By index, since a proof knows no element after `chunks_exact_mut`.
+        // By index, since std says nothing of what a slice holds after its `chunks_exact_mut` were written.
         for k in 0..height {
             let row = window_place(self.rows, y, k);
             self.gather_row(x, row, &mut out[k * length..(k + 1) * length]);

@@ -6,6 +6,7 @@ ghost use Rattle.desk.specs.Desks.{empty, desk_of, desk_said_of, making, windowi
 
 use super::Desk;
 use crate::card::{all_name_tiles, card_memory};
+use crate::count::TileCount;
 use crate::done::DeskDone;
 use crate::tiles::{read_tile, write_tile};
 use crate::trouble::DeskTrouble;
@@ -13,20 +14,6 @@ use commands::StoreCommand;
 use piles::{AnyStore, Pile};
 use std::alloc::Global;
 use stores::{Bits, Card, Memory, TileStore, Window};
-
-// The most tiles of a store.
-const MOST_TILES: u32 = 1048576;
-
-// Refuses more tiles than a store may have.
-fn check_tiles(n: u32) -> Result<(), DeskTrouble>
-    ensures { elim result [ Ok u ↦ n ≤ 1048576 | Err t ↦ (1048576 < n) × (t ≡ TooManyTiles) ] }
-{
-    if n > MOST_TILES {
-        Err(DeskTrouble::TooManyTiles)
-    } else {
-        Ok(())
-    }
-}
 
 impl Desk {
     /// A bench with no store yet.
@@ -36,12 +23,12 @@ impl Desk {
         Desk { store: None }
     }
 
-    // Plain memory of n tiles.
+    // Plain memory of n tiles. It stands beside `set_bits`: they share the count and the zeros, and the types,
+    // variants and answers that are left to each are no plainer behind a closure.
     fn set_memory(&mut self, heap: Global, n: u32) -> Result<DeskDone, DeskTrouble>
         ensures { DeskObeys true (desk_said_of result) (desk_of self.old) (desk_of self.new) (desk_obeyed (desk_of self.old) (memory n)) }
     {
-        check_tiles(n)?;
-        let bytes = vec![in heap; 0u8; 64 * n as usize]?;
+        let bytes = TileCount::new(n)?.zeros(heap, 64)?;
         self.store = Some(Pile::Plain(AnyStore::Memory(Memory::new(bytes))));
         Ok(DeskDone::MemoryMade(n))
     }
@@ -50,8 +37,7 @@ impl Desk {
     fn set_bits(&mut self, heap: Global, n: u32) -> Result<DeskDone, DeskTrouble>
         ensures { DeskObeys true (desk_said_of result) (desk_of self.old) (desk_of self.new) (desk_obeyed (desk_of self.old) (bits n)) }
     {
-        check_tiles(n)?;
-        let bytes = vec![in heap; 0u8; 8 * n as usize]?;
+        let bytes = TileCount::new(n)?.zeros(heap, 8)?;
         self.store = Some(Pile::Plain(AnyStore::Bits(Bits::new(bytes))));
         Ok(DeskDone::BitsMade(n))
     }
@@ -60,11 +46,11 @@ impl Desk {
     fn set_card(&mut self, heap: Global, n: u32, worn: &[&str]) -> Result<DeskDone, DeskTrouble>
         ensures { DeskObeys true (desk_said_of result) (desk_of self.old) (desk_of self.new) (desk_obeyed (desk_of self.old) (card n (map (λ w. w.now) worn.now))) }
     {
-        check_tiles(n)?;
+        let count = TileCount::new(n)?;
         if !all_name_tiles(worn, n) {
             return Err(DeskTrouble::BadWorn);
         }
-        let bytes = card_memory(heap, n, worn)?;
+        let bytes = card_memory(heap, count, worn)?;
         self.store = Some(Pile::Plain(AnyStore::Card(Card::new(bytes))));
         Ok(DeskDone::CardMade {
             tiles: n,
@@ -109,20 +95,16 @@ impl Desk {
     fn read(&mut self, k: u32) -> Result<DeskDone, DeskTrouble>
         ensures { DeskObeys false (desk_said_of result) (desk_of self.old) (desk_of self.new) (desk_obeyed (desk_of self.old) (reading k)) }
     {
-        match &mut self.store {
-            Some(store) => read_tile(store, k),
-            None => Err(DeskTrouble::NoStore),
-        }
+        let store = self.store.as_mut().ok_or(DeskTrouble::NoStore)?;
+        read_tile(store, k)
     }
 
     // A tile of which every byte becomes the same.
     fn write(&mut self, k: u32, value: u8) -> Result<DeskDone, DeskTrouble>
         ensures { DeskObeys false (desk_said_of result) (desk_of self.old) (desk_of self.new) (desk_obeyed (desk_of self.old) (writing k value)) }
     {
-        match &mut self.store {
-            Some(store) => write_tile(store, k, value),
-            None => Err(DeskTrouble::NoStore),
-        }
+        let store = self.store.as_mut().ok_or(DeskTrouble::NoStore)?;
+        write_tile(store, k, value)
     }
 
     /// Does what a command asks for, and answers what it did.

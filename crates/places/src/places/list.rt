@@ -1,6 +1,6 @@
 ghost use Rattle.std.specs.Prelude.{◌≡◌, ◌≤◌, [], map, length};
 ghost use Rattle.shelves.specs.Shelves.{cleaned, entry_at, place_of, over_front, with_byte};
-ghost use Rattle.places.specs.Places.{list_of, front_is, moved_to_front, admitted, front_bytes, front_byte};
+ghost use Rattle.places.specs.Places.{list_of, front_is, moved_to_front, admitted, cleaned_at, front_bytes, front_byte};
 
 use super::Places;
 use crate::offset::Offset;
@@ -44,10 +44,7 @@ impl Places {
     pub fn front_is(&self, k: u32) -> bool
         ensures { result ≡ front_is (list_of self.now) k }
     {
-        match self.list().first() {
-            Some(entry) => entry.tile == k,
-            None => false,
-        }
+        self.list().first().is_some_and(|entry| entry.tile == k)
     }
 
     /// The entry at place p comes to the front, and those before it go one place back.
@@ -73,12 +70,23 @@ impl Places {
         last
     }
 
+    /// The entry at place p as it is, if there is one; its mark of a change is cleared.
+    pub fn clear_mark(&mut self, p: usize) -> Option<Entry>
+        ensures leaves { list_of self.new ≡ cleaned_at (list_of self.old) p }
+        ensures was { result ≡ entry_at (list_of self.old) p }
+    {
+        let entry = self.entries.get_mut(p)?;
+        let was = *entry;
+        entry.changed = false;
+        Some(was)
+    }
+
     /// Clears the mark of a change of every entry.
     pub fn clear_marks(&mut self)
         ensures { list_of self.new ≡ map cleaned (list_of self.old) }
     {
-        for entry in self.entries.as_mut_slice() {
-            entry.changed = false;
+        for each in self.entries.as_mut_slice() {
+            each.changed = false;
         }
     }
 
@@ -86,10 +94,9 @@ impl Places {
     pub fn front_byte(&self, at: Offset) -> u8
         ensures { result ≡ front_byte (list_of self.now) at.index }
     {
-        match self.list().first() {
-            Some(entry) => entry.bytes[at.index()],
-            None => 0,
-        }
+        self.list()
+            .first()
+            .map_or(0, |entry| entry.bytes[at.index()])
     }
 
     /// Copies the bytes of the front tile, if there is one.

@@ -1,4 +1,4 @@
-ghost use Rattle.std.specs.Prelude.{◌≡◌, [], ◌∷◌};
+ghost use Rattle.std.specs.Prelude.{◌≡◌, ◌≤◌, [], ◌∷◌, length};
 ghost use Rattle.stores.specs.Meaning.{Reached, reading};
 ghost use Rattle.shelves.specs.Shelves.{SettledAs, BelowRead, settled, writes_back};
 ghost use Rattle.shelves.specs.Runs.{ShelfLaw};
@@ -27,7 +27,8 @@ impl<S: TileStore> Shelf<S> {
 
     /// The tiles on the shelf by last use, front first.
     pub fn list(&self) -> &[Entry]
-        ensures { result.now ≡ (shelved self.now).list }
+        ensures is { result.now ≡ (shelved self.now).list }
+        ensures few { length result.now ≤ 64 }
     {
         self.places.list()
     }

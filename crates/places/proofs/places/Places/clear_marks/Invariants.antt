@@ -3,5 +3,5 @@ use Rattle.places.proofs.Clearing.{cleared}
 use Rattle.places.proofs.places.Places.clear_marks.Given as goal
 
 -- the first entries are cleared
-abbrev pub invariant-loop-entry : goal.invariant-loop-entry
-invariant-loop-entry l = l.entry-items ≡ cleared l.initial.entry-items l.entry-index
+abbrev pub invariant-loop-each : goal.invariant-loop-each
+invariant-loop-each l = l.each-items ≡ cleared l.initial.each-items l.each-index

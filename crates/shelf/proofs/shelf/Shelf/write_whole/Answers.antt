@@ -1,8 +1,8 @@
-use Rattle.std.proofs.Common.{ap, ◌∙◌}
-use Rattle.stores.specs.Meaning.{any_above}
+use Rattle.std.proofs.Common.{◌≡◌, ◌<◌, ap, ◌∙◌}
+use Rattle.stores.specs.Meaning.{any_above, count}
 use Rattle.stores.specs.Windows.{left_by}
 use Rattle.shelf.specs.Shelf.{shelved}
-use Rattle.shelf.proofs.Calls.{top_refused, top_reaches, touch_refused, write_reaches, write_does, write_stays}
+use Rattle.shelf.proofs.Calls.{top_did, touch_did, write_did, write_stays}
 use Rattle.shelf.proofs.shelf.Shelf.write_whole.Goals as goal
 
 pub returns-in_err-check_top : goal.returns-in_err-check_top
@@ -10,46 +10,34 @@ returns-in_err-check_top g c =
     let h = shelved c.args.self.now in
     let l = g.met.S.TileStore.lawful c.args.self.now.below in
     let bytes = c.args.bytes.now in
-    let was = c.in_err-check_top.was in
-    record {
-      reaches = top_reaches h l c.args.self.now.kept c.args.k bytes _ (λ w. c.any_above.ensures ∙ ap (λ n. any_above n bytes) c.top.ensures) c.check_top.result c.check_top.ensures g.S.TileStore.steps _ _ was;
-      does = top_refused h l c.args.self.now.kept c.args.k bytes _ (λ w. c.any_above.ensures ∙ ap (λ n. any_above n bytes) c.top.ensures) c.check_top.result c.check_top.ensures _ c.from_residual.result
-          (left_by c.from_residual.result c.check_top.result _ c.from_residual.ensures.1 was) was;
-    }
+    let tells : c.args.k < count h.below → c.any_above.result ≡ any_above h.below.top bytes = λ w. c.any_above.ensures ∙ ap (λ n. any_above n bytes) c.top.ensures in
+    top_did h l c.args.self.now.kept c.args.k bytes _ tells c.check_top.result c.check_top.ensures g.S.TileStore.steps _ _ c.from_residual.result
+    (left_by c.from_residual.result c.check_top.result _ c.from_residual.ensures.1 c.in_err-check_top.was) c.in_err-check_top.was
 
 pub returns-in_err-touch : goal.returns-in_err-touch
 returns-in_err-touch g c =
     let h = shelved c.args.self.now in
-    let h1 = shelved c.touch.new.self in
     let l = g.met.S.TileStore.lawful c.args.self.now.below in
     let bytes = c.args.bytes.now in
-    let was = c.in_err-touch.was in
+    let tells : c.args.k < count h.below → c.any_above.result ≡ any_above h.below.top bytes = λ w. c.any_above.ensures ∙ ap (λ n. any_above n bytes) c.top.ensures in
     let e = c.touch.ensures in
-    record {
-      reaches = write_reaches h l c.args.self.now.kept c.args.k bytes _ (λ w. c.any_above.ensures ∙ ap (λ n. any_above n bytes) c.top.ensures) c.check_top.result c.check_top.ensures c.in_ok-check_top.was c.touch.result h1 e.does g.S.TileStore.steps _ _ e.reaches;
-      does = touch_refused h l c.args.self.now.kept c.args.k bytes _ (λ w. c.any_above.ensures ∙ ap (λ n. any_above n bytes) c.top.ensures) c.check_top.result c.check_top.ensures c.in_ok-check_top.was c.touch.result h1 e.does _ c.from_residual-in_err-touch.result
-          (left_by c.from_residual-in_err-touch.result c.touch.result _ c.from_residual-in_err-touch.ensures.1 was) was;
-    }
+    touch_did h l c.args.self.now.kept c.args.k bytes _ tells c.check_top.result c.check_top.ensures c.in_ok-check_top.was c.touch.result (shelved c.touch.new.self) e.does g.S.TileStore.steps _ _ e.reaches _ c.from_residual-in_err-touch.result
+    (left_by c.from_residual-in_err-touch.result c.touch.result _ c.from_residual-in_err-touch.ensures.1 c.in_err-touch.was) c.in_err-touch.was
 
 pub returns : goal.returns
 returns g c =
     let h = shelved c.args.self.now in
-    let h1 = shelved c.touch.new.self in
     let l = g.met.S.TileStore.lawful c.args.self.now.below in
     let bytes = c.args.bytes.now in
+    let tells : c.args.k < count h.below → c.any_above.result ≡ any_above h.below.top bytes = λ w. c.any_above.ensures ∙ ap (λ n. any_above n bytes) c.top.ensures in
     let e = c.touch.ensures in
-    let was = c.in_ok-touch.was in
-    record {
-      reaches = write_reaches h l c.args.self.now.kept c.args.k bytes _ (λ w. c.any_above.ensures ∙ ap (λ n. any_above n bytes) c.top.ensures) c.check_top.result c.check_top.ensures c.in_ok-check_top.was c.touch.result h1 e.does g.S.TileStore.steps _ _ e.reaches;
-      does = write_does h l c.args.self.now.kept c.args.k bytes _ (λ w. c.any_above.ensures ∙ ap (λ n. any_above n bytes) c.top.ensures) c.check_top.result c.check_top.ensures c.in_ok-check_top.was c.touch.result h1 e.does was (λ w. c.told-bytes) _ c.write_front.ensures;
-    }
+    write_did h l c.args.self.now.kept c.args.k bytes _ tells c.check_top.result c.check_top.ensures c.in_ok-check_top.was c.touch.result (shelved c.touch.new.self) e.does g.S.TileStore.steps _ _ e.reaches c.in_ok-touch.was (λ w. c.told-bytes) _ c.write_front.ensures
 
 pub invariant_of-self : goal.invariant_of-self
 invariant_of-self g c =
     let h = shelved c.args.self.now in
-    let h1 = shelved c.touch.new.self in
     let l = g.met.S.TileStore.lawful c.args.self.now.below in
     let bytes = c.args.bytes.now in
+    let tells : c.args.k < count h.below → c.any_above.result ≡ any_above h.below.top bytes = λ w. c.any_above.ensures ∙ ap (λ n. any_above n bytes) c.top.ensures in
     let e = c.touch.ensures in
-    let was = c.in_ok-touch.was in
-    record { kept = write_stays h l c.args.self.now.kept c.args.k bytes _ (λ w. c.any_above.ensures ∙ ap (λ n. any_above n bytes) c.top.ensures) c.check_top.result c.check_top.ensures c.in_ok-check_top.was c.touch.result h1 e.does was (λ w. c.told-bytes) _ c.write_front.ensures }
+    record { kept = write_stays h l c.args.self.now.kept c.args.k bytes _ tells c.check_top.result c.check_top.ensures c.in_ok-check_top.was c.touch.result (shelved c.touch.new.self) e.does c.in_ok-touch.was (λ w. c.told-bytes) _ c.write_front.ensures }
