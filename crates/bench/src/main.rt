@@ -1,6 +1,7 @@
 //! Reads a scenario on standard input and says in print what it did, command by command.
 #![tactic(auto)]
 
+use desk::{DeskDone, Tiles};
 use scenario::{Answer, Bench, BenchReply, Done, rows_text};
 use std::io::{BufRead, BufReader};
 
@@ -20,6 +21,9 @@ fn main(rt: HostRuntime) -> anyhow::Result<()> {
                     let rows = rows_text(heap, plate)?;
                     print!(rt; "step {step}\n{rows}")?;
                 }
+            }
+            BenchReply::Stores(Ok(DeskDone::List)) => {
+                println!(rt; "{answer}{}", Tiles(bench.list()))?;
             }
             _ => println!(rt; "{answer}")?,
         }

@@ -19,6 +19,11 @@ pub data StoreAsked : Type 0 where
   top_asked : StoreAsked
   reading : ℕ → StoreAsked
   writing : ℕ → ℕ → StoreAsked
+  shelf_asked : StoreAsked
+  list_asked : StoreAsked
+  fetches_asked : StoreAsked
+  settle_asked : StoreAsked
+  reading_below : ℕ → StoreAsked
 
 -- what a line asks for
 pub data Asked : Type 0 where
@@ -40,6 +45,11 @@ store_asked_of store_command.Count = count_asked
 store_asked_of store_command.Top = top_asked
 store_asked_of (store_command.Read k) = reading k
 store_asked_of (store_command.Write k v) = writing k v
+store_asked_of store_command.Shelf = shelf_asked
+store_asked_of store_command.List = list_asked
+store_asked_of store_command.Fetches = fetches_asked
+store_asked_of store_command.Settle = settle_asked
+store_asked_of (store_command.Below k) = reading_below k
 
 -- None: no command
 abbrev pub store_asked_if : Option StoreCommand → Asked
@@ -121,6 +131,20 @@ module _ (count : ℕ) (word : ℕ → List ℕ) where
   abbrev pub write_of : Asked
   write_of = cond (count == 3) (given (numeral (word 1)) (λ k. given (numeral (word 2)) (λ v. cond (nat_le v 255) (store (writing k v)) unknown))) unknown
 
+  -- below TILE
+  abbrev pub below_of : Asked
+  below_of = cond (count == 2) (given (numeral (word 1)) (λ k. store (reading_below k))) unknown
+
+  -- the commands for a shelf
+  abbrev pub shelf_verb_of : Asked
+  shelf_verb_of =
+      cond (bytes_eq (word 0) (codes "shelf")) (alone_of (store shelf_asked))
+      (cond (bytes_eq (word 0) (codes "list")) (alone_of (store list_asked))
+      (cond (bytes_eq (word 0) (codes "fetches")) (alone_of (store fetches_asked))
+      (cond (bytes_eq (word 0) (codes "settle")) (alone_of (store settle_asked))
+      (cond (bytes_eq (word 0) (codes "below")) below_of
+      unknown))))
+
   -- the commands for stores
   abbrev pub store_verb_of : Asked
   store_verb_of =
@@ -130,7 +154,7 @@ module _ (count : ℕ) (word : ℕ → List ℕ) where
       (cond (bytes_eq (word 0) (codes "top")) (alone_of (store top_asked))
       (cond (bytes_eq (word 0) (codes "read")) read_of
       (cond (bytes_eq (word 0) (codes "write")) write_of
-      unknown)))))
+      shelf_verb_of)))))
 
   -- the first word says which command it is
   abbrev pub verb_of : Asked

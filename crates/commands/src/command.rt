@@ -45,4 +45,14 @@ pub enum StoreCommand<'a> {
     Read(u32),
     /// a tile of which every byte becomes this one
     Write { tile: u32, byte: u8 },
+    /// a shelf over the store
+    Shelf,
+    /// the tiles of the shelf, front first
+    List,
+    /// how many tiles the shelf has fetched
+    Fetches,
+    /// the changed tiles of the shelf are written below
+    Settle,
+    /// a tile's bytes in the store below the shelf
+    Below(u32),
 }

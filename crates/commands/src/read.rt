@@ -25,6 +25,11 @@ fn read_store_command<'a>(words: &'a [&'a str]) -> Option<StoreCommand<'a>>
         }),
         ["count"] => Some(StoreCommand::Count),
         ["top"] => Some(StoreCommand::Top),
+        ["shelf"] => Some(StoreCommand::Shelf),
+        ["list"] => Some(StoreCommand::List),
+        ["fetches"] => Some(StoreCommand::Fetches),
+        ["settle"] => Some(StoreCommand::Settle),
+        ["below", tile] => Some(StoreCommand::Below(read_number(tile)?)),
         ["read", tile] => Some(StoreCommand::Read(read_number(tile)?)),
         ["write", tile, byte] => Some(StoreCommand::Write {
             tile: read_number(tile)?,

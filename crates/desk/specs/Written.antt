@@ -1,5 +1,7 @@
 -- What is printed for a command for stores.
-use Rattle.std.specs.Prelude.{ℕ, List, ◌++◌, Some, None, Option, codes, decimal}
+use Rattle.std.specs.Prelude.{ℕ, Bool, true, false, List, ◌++◌, Some, None, Option, codes, decimal}
+use Rattle.std.specs.List.{flat_map}
+use Rattle.shelves.specs.declared.entry.Entry.{Entry}
 use Rattle.refusals.specs.Written.{written_fault}
 use Rattle.desk.specs.declared.done.DeskDone.{DeskDone}
 use Rattle.desk.specs.declared.done.DeskDone.TheVariants as done
@@ -16,12 +18,31 @@ done_text (done.Count n) = Some (codes "count " ++ decimal n)
 done_text (done.Top n) = Some (codes "top " ++ decimal n)
 done_text (done.Tile k bytes) = None
 done_text (done.Written k) = Some (codes "written " ++ decimal k)
+done_text done.ShelfMade = Some (codes "shelf: 64 places")
+done_text done.List = Some (codes "list")
+done_text (done.Fetches n) = Some (codes "fetches " ++ decimal n)
+done_text done.Settled = Some (codes "settled")
+done_text (done.Below k bytes) = None
 
 -- why it was not done
 abbrev pub trouble_text : DeskTrouble → List ℕ
 trouble_text (trouble.Faulted f) = codes "fault " ++ written_fault f
 trouble_text trouble.NoStore = codes "no store yet"
 trouble_text trouble.WindowTwice = codes "there is a window already"
+trouble_text trouble.NoShelf = codes "no shelf yet"
+trouble_text trouble.ShelfTwice = codes "there is a shelf already"
 trouble_text trouble.TooManyTiles = codes "a store has at most 1048576 tiles"
 trouble_text trouble.BadWorn = codes "a worn tile is a number below the count"
 trouble_text trouble.NoMemory = codes "not enough memory"
+
+-- the mark of a changed tile
+abbrev pub mark_text : Bool → List ℕ
+mark_text true = codes "*"
+mark_text false = codes ""
+
+-- the tiles of a shelf, front first
+abbrev pub tile_text : Entry → List ℕ
+tile_text e = codes " " ++ (decimal e.tile ++ mark_text e.changed)
+
+abbrev pub tiles_text : List Entry → List ℕ
+tiles_text es = flat_map tile_text es

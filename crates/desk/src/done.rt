@@ -17,4 +17,14 @@ pub enum DeskDone {
     Tile { number: u32, bytes: [u8; 64] },
     /// a tile is written
     Written(u32),
+    /// a shelf is made
+    ShelfMade,
+    /// the shelf's tiles are asked for, which `Desk::list` shows
+    List,
+    /// how many tiles the shelf has fetched
+    Fetches(u64),
+    /// the changed tiles are written below
+    Settled,
+    /// a tile of the store below the shelf is read
+    Below { number: u32, bytes: [u8; 64] },
 }

@@ -12,4 +12,5 @@ mod trouble;
 
 pub use desk::Desk;
 pub use done::DeskDone;
+pub use show::Tiles;
 pub use trouble::DeskTrouble;

@@ -9,6 +9,10 @@ pub enum DeskTrouble {
     NoStore,
     /// there is a window already
     WindowTwice,
+    /// there is no shelf yet
+    NoShelf,
+    /// there is a shelf already
+    ShelfTwice,
     /// more tiles than a store may have
     TooManyTiles,
     /// a worn tile that is no number below the count

@@ -10,6 +10,8 @@ use Rattle.desk.specs.declared.done.DeskDone.{DeskDone}
 use Rattle.desk.specs.declared.trouble.DeskTrouble.{DeskTrouble}
 use Rattle.desk.specs.declared.trouble.DeskTrouble.TheVariants as desk_trouble
 use Rattle.desk.specs.Written as desk
+use Rattle.scenario.specs.declared.answer.BenchReply.{BenchReply}
+use Rattle.scenario.specs.declared.answer.BenchReply.TheVariants.{Plates, Stores}
 use Rattle.scenario.specs.declared.done.Done.{Done}
 use Rattle.scenario.specs.declared.done.Done.TheVariants as done
 use Rattle.scenario.specs.declared.trouble.Trouble.{Trouble}
@@ -54,6 +56,13 @@ desk_reply_text line (Ok d) = desk.done_text d
 desk_reply_text line (Err (desk_trouble.Faulted f)) = Some (desk.trouble_text (desk_trouble.Faulted f))
 desk_reply_text line (Err desk_trouble.NoStore) = Some (line_text line (desk.trouble_text desk_trouble.NoStore))
 desk_reply_text line (Err desk_trouble.WindowTwice) = Some (line_text line (desk.trouble_text desk_trouble.WindowTwice))
+desk_reply_text line (Err desk_trouble.NoShelf) = Some (line_text line (desk.trouble_text desk_trouble.NoShelf))
+desk_reply_text line (Err desk_trouble.ShelfTwice) = Some (line_text line (desk.trouble_text desk_trouble.ShelfTwice))
 desk_reply_text line (Err desk_trouble.TooManyTiles) = Some (line_text line (desk.trouble_text desk_trouble.TooManyTiles))
 desk_reply_text line (Err desk_trouble.BadWorn) = Some (line_text line (desk.trouble_text desk_trouble.BadWorn))
 desk_reply_text line (Err desk_trouble.NoMemory) = Some (line_text line (desk.trouble_text desk_trouble.NoMemory))
+
+-- what a bench replies to a line
+abbrev pub bench_reply_text : ℕ → BenchReply → Option (List ℕ)
+bench_reply_text line (Plates r) = Some (reply_text line r)
+bench_reply_text line (Stores r) = desk_reply_text line r

@@ -1,5 +1,5 @@
 ghost use Rattle.std.specs.Prelude.{Some};
-ghost use Rattle.scenario.specs.Written.{done_text, trouble_text, reply_text, desk_reply_text};
+ghost use Rattle.scenario.specs.Written.{done_text, trouble_text, reply_text, desk_reply_text, bench_reply_text};
 
 use super::answer::{Answer, BenchReply, DeskReply, Reply};
 use super::done::Done;
@@ -99,6 +99,8 @@ impl fmt::Display for Answer<DeskReply> {
 }
 
 impl fmt::Display for Answer<BenchReply> {
+    ghost output = { λ answer. bench_reply_text answer.line answer.reply };
+
     fn fmt<W: fmt::Write>(&self, f: &mut fmt::Formatter<W>) -> fmt::Result {
         let line = self.line;
         match self.reply {

@@ -27,6 +27,7 @@ impl FromStr for Edge {
 }
 
 impl Edge {
+    // It stays beside `Display`, which can fail for want of room, as this cannot.
     /// The word that names the edge.
     pub fn word(self) -> &'static str
         ensures { result.now ≡ edge_word self }

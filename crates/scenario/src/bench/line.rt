@@ -3,7 +3,7 @@ ghost use Rattle.std.specs.Option.{option_map};
 ghost use Rattle.rules.specs.Meant.{any_of};
 ghost use Rattle.sweep.specs.Plate.{plain_of, rule_of};
 ghost use Rattle.commands.specs.Commands.{word_at, asked_of, command_of};
-ghost use Rattle.desk.specs.Desks.{empty};
+ghost use Rattle.desk.specs.Desks.{empty, list_in};
 ghost use Rattle.scenario.specs.Sessions.{fresh, plated, plate_in};
 ghost use Rattle.scenario.specs.Benches.{bench_of, BenchObeys, Answers};
 
@@ -14,6 +14,7 @@ use crate::trouble::Trouble;
 use commands::{Command, read_command, split_words};
 use desk::Desk;
 use rules::AnyRule;
+use shelves::Entry;
 use std::alloc::Global;
 use std::str::from_utf8;
 use sweep::Plate;
@@ -60,6 +61,13 @@ impl Bench {
             return BenchReply::Plates(Err(Trouble::NoMemory));
         };
         self.obey_words(heap, words.as_slice())
+    }
+
+    /// The tiles of the shelf, front first, and none if there is no shelf.
+    pub fn list(&self) -> &[Entry]
+        ensures { result.now ≡ list_in (bench_of self.now).stores }
+    {
+        self.stores.list()
     }
 
     /// The plate, if there is one.
