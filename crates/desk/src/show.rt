@@ -1,5 +1,5 @@
 ghost use Rattle.std.specs.Prelude.{Some};
-ghost use Rattle.desk.specs.Written.{done_text, tiles_text, trouble_text};
+ghost use Rattle.desk.specs.Written.{bytes_text, done_text, tiles_text, trouble_text};
 
 use super::done::DeskDone;
 use super::trouble::DeskTrouble;
@@ -7,11 +7,13 @@ use shelves::Entry;
 use std::error::Error;
 use std::fmt;
 
-// The bytes of a tile, two hexadecimal digits each.
+// Bytes in print, two hexadecimal digits each.
 #[derive(Clone, Copy)]
-struct Bytes<'a>(&'a [u8; 64]);
+struct Bytes<'a>(&'a [u8]);
 
 impl fmt::Display for Bytes<'_> {
+    ghost output = { λ bytes. Some (bytes_text bytes.0.now) };
+
     fn fmt<W: fmt::Write>(&self, f: &mut fmt::Formatter<W>) -> fmt::Result {
         for byte in self.0 {
             write!(f, "{byte:02x}")?;
@@ -37,7 +39,7 @@ impl fmt::Display for Tiles<'_> {
 }
 
 impl fmt::Display for DeskDone {
-    ghost output = { done_text };
+    ghost output = { λ done. Some (done_text done) };
 
     fn fmt<W: fmt::Write>(&self, f: &mut fmt::Formatter<W>) -> fmt::Result {
         match self {

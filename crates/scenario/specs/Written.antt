@@ -1,5 +1,5 @@
 -- What is printed for a command.
-use Rattle.std.specs.Prelude.{ℕ, List, [], ◌++◌, Some, Option, Ok, Err, Result, codes, decimal}
+use Rattle.std.specs.Prelude.{ℕ, List, [], ◌++◌, Ok, Err, Result, codes, decimal}
 use Rattle.refusals.specs.Numbers.{numbers}
 use Rattle.refusals.specs.Written as refusals
 use Rattle.rules.specs.Meant.{any_of}
@@ -51,18 +51,18 @@ reply_text line (Err trouble.NotUnderstood) = line_text line (trouble_text troub
 reply_text line (Err trouble.NoMemory) = line_text line (trouble_text trouble.NoMemory)
 
 -- a fault is told by itself, and any other trouble with its line
-abbrev pub desk_reply_text : ℕ → Result DeskDone DeskTrouble → Option (List ℕ)
+abbrev pub desk_reply_text : ℕ → Result DeskDone DeskTrouble → List ℕ
 desk_reply_text line (Ok d) = desk.done_text d
-desk_reply_text line (Err (desk_trouble.Faulted f)) = Some (desk.trouble_text (desk_trouble.Faulted f))
-desk_reply_text line (Err desk_trouble.NoStore) = Some (line_text line (desk.trouble_text desk_trouble.NoStore))
-desk_reply_text line (Err desk_trouble.WindowTwice) = Some (line_text line (desk.trouble_text desk_trouble.WindowTwice))
-desk_reply_text line (Err desk_trouble.NoShelf) = Some (line_text line (desk.trouble_text desk_trouble.NoShelf))
-desk_reply_text line (Err desk_trouble.ShelfTwice) = Some (line_text line (desk.trouble_text desk_trouble.ShelfTwice))
-desk_reply_text line (Err desk_trouble.TooManyTiles) = Some (line_text line (desk.trouble_text desk_trouble.TooManyTiles))
-desk_reply_text line (Err desk_trouble.BadWorn) = Some (line_text line (desk.trouble_text desk_trouble.BadWorn))
-desk_reply_text line (Err desk_trouble.NoMemory) = Some (line_text line (desk.trouble_text desk_trouble.NoMemory))
+desk_reply_text line (Err (desk_trouble.Faulted f)) = desk.trouble_text (desk_trouble.Faulted f)
+desk_reply_text line (Err desk_trouble.NoStore) = line_text line (desk.trouble_text desk_trouble.NoStore)
+desk_reply_text line (Err desk_trouble.WindowTwice) = line_text line (desk.trouble_text desk_trouble.WindowTwice)
+desk_reply_text line (Err desk_trouble.NoShelf) = line_text line (desk.trouble_text desk_trouble.NoShelf)
+desk_reply_text line (Err desk_trouble.ShelfTwice) = line_text line (desk.trouble_text desk_trouble.ShelfTwice)
+desk_reply_text line (Err desk_trouble.TooManyTiles) = line_text line (desk.trouble_text desk_trouble.TooManyTiles)
+desk_reply_text line (Err desk_trouble.BadWorn) = line_text line (desk.trouble_text desk_trouble.BadWorn)
+desk_reply_text line (Err desk_trouble.NoMemory) = line_text line (desk.trouble_text desk_trouble.NoMemory)
 
 -- what a bench replies to a line
-abbrev pub bench_reply_text : ℕ → BenchReply → Option (List ℕ)
-bench_reply_text line (Plates r) = Some (reply_text line r)
+abbrev pub bench_reply_text : ℕ → BenchReply → List ℕ
+bench_reply_text line (Plates r) = reply_text line r
 bench_reply_text line (Stores r) = desk_reply_text line r

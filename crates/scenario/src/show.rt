@@ -86,7 +86,7 @@ impl fmt::Display for Answer<Reply> {
 // A fault is told by itself, and any other trouble by the line. It stands beside the one above, since which trouble
 // is told by itself is each enum's own.
 impl fmt::Display for Answer<DeskReply> {
-    ghost output = { λ answer. desk_reply_text answer.line answer.reply };
+    ghost output = { λ answer. Some (desk_reply_text answer.line answer.reply) };
 
     fn fmt<W: fmt::Write>(&self, f: &mut fmt::Formatter<W>) -> fmt::Result {
         let line = self.line;
@@ -99,7 +99,7 @@ impl fmt::Display for Answer<DeskReply> {
 }
 
 impl fmt::Display for Answer<BenchReply> {
-    ghost output = { λ answer. bench_reply_text answer.line answer.reply };
+    ghost output = { λ answer. Some (bench_reply_text answer.line answer.reply) };
 
     fn fmt<W: fmt::Write>(&self, f: &mut fmt::Formatter<W>) -> fmt::Result {
         let line = self.line;
