@@ -38,5 +38,6 @@ pub fn raised(answer: Result<(), Fault>) -> Result<(), Fault>
 pub fn any_above(bytes: &[u8; 64], top: u8) -> bool
     ensures { result ≡ any_above top bytes.now }
 {
-    bytes.iter().any(|b| *b > top)
+    // No byte is above 255, and so a store of whole bytes is not searched.
+    top < u8::MAX && bytes.iter().any(|b| *b > top)
 }
