@@ -2,7 +2,7 @@ ghost use Rattle.std.specs.Prelude.{◌≡◌, length};
 ghost use Rattle.std.specs.Option.{option_map};
 ghost use Rattle.rules.specs.Meant.{any_of};
 ghost use Rattle.sweep.specs.Plate.{plain_of, rule_of};
-ghost use Rattle.commands.specs.Commands.{word_at, asked_of, command_of};
+ghost use Rattle.commands.specs.Commands.{word_at, asked_if, command_of};
 ghost use Rattle.desk.specs.Desks.{empty, list_in};
 ghost use Rattle.scenario.specs.Sessions.{fresh, plated, plate_in};
 ghost use Rattle.scenario.specs.Benches.{bench_of, BenchObeys, Answers};
@@ -30,13 +30,14 @@ impl Bench {
         }
     }
 
-    /// Does what a command asks for, and answers what it did.
-    pub fn obey(&mut self, heap: Global, command: Command<'_>) -> BenchReply
-        ensures { BenchObeys result (bench_of self.old) (bench_of self.new) (asked_of command.entry) }
+    /// Does what a command asks for, and answers what it did; None is a line that is not understood.
+    pub fn obey(&mut self, heap: Global, command: Option<Command<'_>>) -> BenchReply
+        ensures { BenchObeys result (bench_of self.old) (bench_of self.new) (asked_if command.entry) }
     {
         match command {
-            Command::Store(store) => BenchReply::Stores(self.stores.obey(heap, store)),
-            other => BenchReply::Plates(self.plates.obey(heap, other)),
+            Some(Command::Store(store)) => BenchReply::Stores(self.stores.obey(heap, store)),
+            Some(other) => BenchReply::Plates(self.plates.obey(heap, other)),
+            None => BenchReply::Plates(Err(Trouble::NotUnderstood)),
         }
     }
 
@@ -44,10 +45,7 @@ impl Bench {
     fn obey_words(&mut self, heap: Global, words: &[&str]) -> BenchReply
         ensures { BenchObeys result (bench_of self.old) (bench_of self.new) (command_of (length words.now) (word_at words.now)) }
     {
-        match read_command(words) {
-            Some(command) => self.obey(heap, command),
-            None => BenchReply::Plates(Err(Trouble::NotUnderstood)),
-        }
+        self.obey(heap, read_command(words))
     }
 
     /// Answers a line of a scenario.
