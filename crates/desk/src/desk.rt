@@ -2,15 +2,15 @@ use piles::{Pile, ShelvedPile};
 
 mod obey;
 
-/// The store of a scenario, with a window over it or not, if there is one yet, and with a shelf or not.
+/// The store of a scenario, if there is one yet.
 #[derive(Drop)]
 pub struct Desk {
-    store: Option<Stack>,
+    pub store: Option<Stack>,
 }
 
-// A store as it stands on the desk.
+/// A store as it stands on a desk, with a window over it or not, and with a shelf or not.
 #[derive(Drop)]
-enum Stack {
+pub enum Stack {
     Bare(Pile),
     Shelved(ShelvedPile),
 }

@@ -10,7 +10,7 @@ mod show;
 mod tiles;
 mod trouble;
 
-pub use desk::Desk;
+pub use desk::{Desk, Stack};
 pub use done::DeskDone;
 pub use show::Tiles;
 pub use trouble::DeskTrouble;

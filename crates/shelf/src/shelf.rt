@@ -20,5 +20,5 @@ pub struct Shelf<S: TileStore> {
     below: S,
     places: Places,
     fetches: u64,
-    ghost kept: { Kept (S.meaning below) (list_of places) } by { kept_prop (S.meaning below) (list_of places) },
+    pub ghost kept: { Kept (S.meaning below) (list_of places) } by { kept_prop (S.meaning below) (list_of places) },
 }
