@@ -7,5 +7,6 @@ use std::alloc::{AllocError, Global};
 pub fn split_words<'a>(heap: Global, line: &'a str) -> Result<Vec<&'a str>, AllocError>
     ensures { IfOk result (λ v. Words line.now (map (λ w. w.now) v.items)) }
 {
-    line.split_whitespace().collect(heap)
+    let words = line.split_whitespace().collect(heap)?;
+    Ok(words)
 }
