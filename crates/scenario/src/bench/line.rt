@@ -1,8 +1,8 @@
-ghost use Rattle.std.specs.Prelude.{◌≡◌, length};
+ghost use Rattle.std.specs.Prelude.{◌≡◌};
 ghost use Rattle.std.specs.Option.{option_map};
 ghost use Rattle.rules.specs.Meant.{any_of};
 ghost use Rattle.sweep.specs.Plate.{plain_of, rule_of};
-ghost use Rattle.commands.specs.Commands.{word_at, asked_if, command_of};
+ghost use Rattle.commands.specs.Commands.{asked_if};
 ghost use Rattle.desk.specs.Desks.{empty, list_in};
 ghost use Rattle.scenario.specs.Sessions.{fresh, plated, plate_in};
 ghost use Rattle.scenario.specs.Benches.{bench_of, BenchObeys, Answers};
@@ -41,13 +41,6 @@ impl Bench {
         }
     }
 
-    // Does what the words of a line ask for, if they are a command.
-    fn obey_words(&mut self, heap: Global, words: &[&str]) -> BenchReply
-        ensures { BenchObeys result (bench_of self.old) (bench_of self.new) (command_of (length words.now) (word_at words.now)) }
-    {
-        self.obey(heap, read_command(words))
-    }
-
     /// Answers a line of a scenario.
     pub fn answer(&mut self, heap: Global, line: &[u8]) -> BenchReply
         ensures { Answers line.now result (bench_of self.old) (bench_of self.new) }
@@ -58,7 +51,7 @@ impl Bench {
         let Ok(words) = split_words(heap, text) else {
             return BenchReply::Plates(Err(Trouble::NoMemory));
         };
-        self.obey_words(heap, words.as_slice())
+        self.obey(heap, read_command(words.as_slice()))
     }
 
     /// The tiles of the shelf, front first, and none if there is no shelf.
